@@ -1,16 +1,12 @@
 -- The readers' calls have one answer each, and one buffer afterwards, for every text, token and buffer. Assumes nothing.
-use Prim.Native.Nat.{ℕ, _≤_, _<_}
-use mathlib.Core.Path.{_≡_, refl, sym, ap, _∙_}
+use Prim.Native.Nat.{ℕ}
+use mathlib.Core.Path.{_≡_, refl, ap}
 use mathlib.Core.List.{List, _++_}
 use native.Mathlib.Omega.{arith}
 use lib.ListN.{length, drop}
-use Rattle.wat.specs.declared.{IntegerKind.IntegerKind, FloatKind.FloatKind, TokenKind.TokenKind, Token.Token, Refusal.Refusal, Reading.Reading, IntegerSign.IntegerSign, FloatSign.FloatSign}
-use Rattle.wat.specs.declared.TokenKind.the-variants as kind
-use Rattle.wat.specs.declared.FloatSign.the-variants as float
-use Rattle.wat.specs.Settings.{lenient}
-use Rattle.wat.specs.Lexing.{Lexed}
+use Rattle.wat.specs.declared.{TokenKind.TokenKind, Token.Token, Refusal.Refusal, Reading.Reading, IntegerSign.IntegerSign, FloatSign.FloatSign}
 use Rattle.wat.specs.Values.{Reader, Takes, Value, Reads}
-use Rattle.wat.specs.Reading.{There, Barred, own, needs, found, Read, ReadsSign, negativeOf, ReadsNegative}
+use Rattle.wat.specs.Reading.{There, Barred, needs, found, Read, ReadsSign, negativeOf, ReadsNegative}
 use Rattle.wat.proofs.OneCall.{turned-one, stands-or-turned}
 use Rattle.wat.proofs.OneValue.{reads-one}
 

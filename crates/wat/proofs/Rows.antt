@@ -2,8 +2,8 @@
 use Prim.Native.Nat.{ℕ}
 use Prim.Native.String.{String}
 use mathlib.Core.Path.{_≡_, refl, subst}
-use mathlib.Core.Bool.{Bool, true, false}
-use mathlib.Core.List.{List, [], _∷_, _++_, map}
+use mathlib.Core.Bool.{false}
+use mathlib.Core.List.{List, [], _∷_, map}
 use Rattle.wat.specs.declared.FloatKind.the-variants.{Normal}
 use Rattle.wat.specs.declared.TokenKind.{TokenKind}
 use Rattle.wat.specs.declared.TokenKind.the-variants as kind
@@ -11,7 +11,7 @@ use Rattle.wat.specs.declared.LexError.the-variants.{DanglingBlockCommen
 use Rattle.wat.specs.declared.Answer.{Answer}
 use Rattle.wat.specs.declared.Answer.the-variants.{End, Token, Fault}
 use Rattle.wat.specs.declared.Checked.the-variants.{Ok}
-use Rattle.wat.specs.Bytes.{bytes, byte, between, has}
+use Rattle.wat.specs.Bytes.{bytes, between, has}
 use Rattle.wat.specs.Settings.{plain}
 use Rattle.wat.specs.Numbers.{digit, marks, Digits, Signed, Fraction, Exponent}
 use Rattle.wat.specs.NumberModel.{classify, run, strip, after-dot, fraction, sign-of, after-sign, exponent, at-end, then, decide, finite, is, nothing-left, payload, unsigned}

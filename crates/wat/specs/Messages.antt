@@ -1,7 +1,7 @@
 -- The message of an error: the Rust's `Display` of `LexError`, which document 01 takes over.
 use Prim.Native.Nat.{ℕ, _+_, _*_, _≤_, _<_}
 use mathlib.Core.Path.{_≡_}
-use mathlib.Core.Bool.{Bool, true, false}
+use mathlib.Core.Bool.{true, false}
 use mathlib.Core.List.{List, [], _∷_, _++_, List·Memᴰ}
 use lib.ListN.{length, drop, getD}
 use Rattle.wat.specs.declared.{LexError.LexError, Refusal.Refusal, Message.Message}

@@ -1,11 +1,11 @@
 -- The readers' calls: document 01's two calls, their refusals in the order 1, 2, 3, 4, 30, 31, 32, 22 to 24, and the lent buffer afterwards.
 use Prim.Native.Nat.{ℕ, _+_, _-_, _≤_, _<_}
 use mathlib.Core.Path.{_≡_}
-use mathlib.Core.Bool.{Bool, true, false, _&&_}
+use mathlib.Core.Bool.{true, false, _&&_}
 use mathlib.Core.List.{List, [], _++_}
 use lib.Dec.{leb}
 use lib.ListN.{length, take, drop}
-use Rattle.wat.specs.declared.{TokenKind.TokenKind, IntegerKind.IntegerKind, FloatKind.FloatKind, Token.Token, Refusal.Refusal, Reading.Reading, IntegerSign.IntegerSign, FloatSign.FloatSign}
+use Rattle.wat.specs.declared.{IntegerKind.IntegerKind, FloatKind.FloatKind, Token.Token, Refusal.Refusal, Reading.Reading, IntegerSign.IntegerSign, FloatSign.FloatSign}
 use Rattle.wat.specs.declared.TokenKind.the-variants as kind
 use Rattle.wat.specs.declared.FloatKind.the-variants.{Inf, Nan, NanVal, Normal}
 use Rattle.wat.specs.declared.Answer.the-variants as answer
