@@ -55,7 +55,7 @@ pub data Linechars : List ℕ → Type 0 where
 
 newline-not : (n : ℕ) → (n ≡ 0x0A → ⊥) → (n ≡ 0x0D → ⊥) → newline n ≡ false
 unfolding newline has
-newline-not n p q = rw (ne-eqb 0x0A n (λ e. p (sym e)), ne-eqb 0x0D n (λ e. q (sym e)))
+newline-not n p q = simp (ne-eqb 0x0A n (λ e. p (sym e)), ne-eqb 0x0D n (λ e. q (sym e)))
 
 no-newline : (b : ℕ) → b < 0x80 → newline b ≡ true → {c : List ℕ} → Char c → Each newline false c → scalar c ≡ b → ⊥
 no-newline b h n {c} ch e q = go e (alone-at c b ch q h)
