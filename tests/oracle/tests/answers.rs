@@ -4,7 +4,7 @@ use Flag::{Either, Off, On};
 use Said::{End, Fault, Token};
 use oracle::numbers::{HEX, MINUS, PLUS, UNDERSCORES};
 use oracle::texts::Texts;
-use oracle::{Answer, Oracle};
+use oracle::{Answer, Oracle, utf8};
 use std::collections::BTreeSet;
 
 const LINE_COMMENT: u16 = 1;
@@ -162,6 +162,29 @@ fn a_position_past_the_end_is_a_panic() {
 #[should_panic(expected = "not a char boundary")]
 fn a_position_inside_a_character_is_a_panic() {
     said("é", false, 1);
+}
+
+#[test]
+fn the_two_numbers_of_a_text_that_is_not_utf8() {
+    let rows: &[(&[u8], Option<[u32; 2]>)] = &[
+        (b"", None),
+        (b"a\xc3\xa9\xf4\x8f\xbf\xbf", None),
+        (b"a\xff", Some([1, 1])),
+        (b"\x80", Some([0, 1])),
+        (b"\xc0\x80", Some([0, 1])),
+        (b"\xed\xa0\x80", Some([0, 1])),
+        (b"\xe2(", Some([0, 1])),
+        (b"\xe2\x80(", Some([0, 2])),
+        (b"\xf0\x9f\x98(", Some([0, 3])),
+        (b"\xf4\x90\x80\x80", Some([0, 1])),
+        // the text ends inside a character
+        (b"\xc3\xa9\xc3", Some([2, 0])),
+        (b"a\xe2\x80", Some([1, 0])),
+        (b"\xf0\x9f\x98", Some([0, 0])),
+    ];
+    for (bytes, expected) in rows {
+        assert_eq!(utf8(bytes).err(), *expected, "{bytes:x?}");
+    }
 }
 
 #[test]
