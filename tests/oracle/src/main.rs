@@ -34,33 +34,33 @@ const MOST: usize = 32_768;
 /// The longest text of a row.
 const ROW: usize = 40;
 
-fn main() -> ExitCode {
+fn main() -> io::Result<ExitCode> {
     let words: Vec<String> = std::env::args().skip(1).collect();
     let words: Vec<&str> = words.iter().map(String::as_str).collect();
     let out = match words[..] {
         ["--help" | "-h"] => Some(HELP.to_string()),
-        ["tokens"] => Some(tokens(&input(), false)),
-        ["tokens", "--allow-confusing"] => Some(tokens(&input(), true)),
+        ["tokens"] => Some(tokens(&input()?, false)),
+        ["tokens", "--allow-confusing"] => Some(tokens(&input()?, true)),
         ["rows", "lex", ref options @ ..] => rows_and_seed(options).map(|(rows, seed)| lex_rows(rows, seed)),
         ["rows", "utf8", ref options @ ..] => rows_and_seed(options).map(|(rows, seed)| utf8_rows(rows, seed)),
         _ => None,
     };
     match out {
         Some(out) => {
-            io::stdout().write_all(out.as_bytes()).expect("standard output takes it");
-            ExitCode::SUCCESS
+            io::stdout().write_all(out.as_bytes())?;
+            Ok(ExitCode::SUCCESS)
         }
         None => {
             eprint!("{HELP}");
-            ExitCode::from(2)
+            Ok(ExitCode::from(2))
         }
     }
 }
 
-fn input() -> Vec<u8> {
+fn input() -> io::Result<Vec<u8>> {
     let mut bytes = Vec::new();
-    io::stdin().read_to_end(&mut bytes).expect("standard input can be read");
-    bytes
+    io::stdin().read_to_end(&mut bytes)?;
+    Ok(bytes)
 }
 
 fn rows_and_seed(options: &[&str]) -> Option<(usize, u64)> {

@@ -17,6 +17,10 @@ const ESCAPED: &[&str] = &[
     "fffffff", "ffffffff", "100000000", "fffffffff", "1", "41", "e9",
 ];
 
+/// First bytes and later bytes of characters on both sides of each edge of the table of well-formed sequences.
+const LEADS: [u8; 15] = [0x7f, 0xc1, 0xc2, 0xdf, 0xe0, 0xe1, 0xec, 0xed, 0xee, 0xef, 0xf0, 0xf1, 0xf3, 0xf4, 0xf5];
+const TRAILS: [u8; 8] = [0x7f, 0x80, 0x8f, 0x90, 0x9f, 0xa0, 0xbf, 0xc0];
+
 /// A generator of texts.
 pub struct Texts {
     state: u64,
@@ -46,29 +50,27 @@ impl Texts {
         text
     }
 
-    /// At most `limit` bytes: characters, some of them damaged, cut or run into each other.
+    /// At most `limit` bytes: characters, and sequences that miss one narrowly, some of them cut or run into each other.
     pub fn bytes(&mut self, limit: usize) -> Vec<u8> {
         let mut bytes = Vec::new();
-        for _ in 0..self.below(6) {
-            let c = self.any_char();
-            bytes.extend_from_slice(c.encode_utf8(&mut [0; 4]).as_bytes());
+        for _ in 0..self.below(5) {
+            if self.one_in(2) {
+                let c = self.any_char();
+                bytes.extend_from_slice(c.encode_utf8(&mut [0; 4]).as_bytes());
+            } else {
+                bytes.push(self.pick(&LEADS));
+                for _ in 0..self.below(4) {
+                    bytes.push(self.pick(&TRAILS));
+                }
+            }
         }
-        for _ in 0..self.below(3) {
+        if self.one_in(3) {
             let at = self.below(bytes.len() + 1);
-            // the bytes at the edges of the table of well-formed sequences, and any other
-            let byte = match self.below(4) {
-                0 => self.next() as u8,
-                _ => self.pick(&[
-                    0x7f, 0x80, 0x8f, 0x90, 0x9f, 0xa0, 0xbf, 0xc0, 0xc1, 0xc2, 0xdf, 0xe0, 0xe1, 0xec, 0xed, 0xee,
-                    0xef, 0xf0, 0xf1, 0xf3, 0xf4, 0xf5, 0xff,
-                ]),
-            };
             match self.below(4) {
                 0 => bytes.truncate(at),
-                1 => bytes.insert(at, byte),
-                _ if at == bytes.len() => bytes.push(byte),
-                2 => bytes[at] = byte,
-                _ => _ = bytes.remove(at),
+                1 => _ = bytes.drain(..at),
+                2 if at < bytes.len() => _ = bytes.remove(at),
+                _ => bytes.insert(at, self.next() as u8),
             }
         }
         bytes.truncate(limit);
