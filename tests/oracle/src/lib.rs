@@ -1,0 +1,111 @@
+//! What the Rust original says of a text, in the numbers of document 01.
+//!
+//! [`lexer`] is docs/src/src/lexer.rs, unchanged; [`Error`] and [`token`] stand in for the rest of its crate. [`Oracle`]
+//! asks it for one token, an annotation or a listing, and for what its readers make of a token.
+//!
+//! A position must stand between two characters of the text, or at its end: elsewhere the original panics, where
+//! document 01 refuses by 3 and 4.
+
+#[rustfmt::skip]
+#[allow(clippy::all)]
+#[path = "../../../docs/src/src/lexer.rs"]
+pub mod lexer;
+pub mod listing;
+pub mod numbers;
+pub mod readers;
+pub mod texts;
+
+use lexer::{LexError, Lexer};
+use readers::Token;
+
+/// What the lexer uses of the original's `token` module.
+pub mod token {
+    /// A place in a text.
+    pub struct Span {
+        pub(crate) offset: usize,
+    }
+}
+
+/// The original's error, as far as the lexer makes one.
+#[derive(Debug)]
+pub struct Error {
+    place: usize,
+    kind: LexError,
+}
+
+impl Error {
+    fn lex(span: token::Span, _content: &str, kind: LexError) -> Error {
+        Error { place: span.offset, kind }
+    }
+}
+
+impl std::fmt::Display for Error {
+    fn fmt(&self, f: &mut std::fmt::Formatter<'_>) -> std::fmt::Result {
+        self.kind.fmt(f)
+    }
+}
+
+/// An error of 10 to 24: its number, its data (0 where there is none) and its place.
+#[derive(Clone, Copy, Debug, PartialEq, Eq)]
+pub struct Fault {
+    pub number: u8,
+    pub data: [u32; 2],
+    pub place: usize,
+}
+
+impl From<Error> for Fault {
+    fn from(error: Error) -> Fault {
+        let (number, data) = numbers::of_error(&error.kind);
+        Fault { number, data, place: error.place }
+    }
+}
+
+/// What lexing at a position answers.
+#[derive(Clone, Copy, Debug, PartialEq)]
+pub enum Answer {
+    End,
+    Token(Token),
+    Fault(Fault),
+}
+
+/// A text with the flag for confusing characters.
+pub struct Oracle<'a> {
+    lexer: Lexer<'a>,
+}
+
+impl<'a> Oracle<'a> {
+    pub fn new(text: &'a str, allow_confusing: bool) -> Oracle<'a> {
+        let mut lexer = Lexer::new(text);
+        lexer.allow_confusing_unicode(allow_confusing);
+        Oracle { lexer }
+    }
+
+    /// The text.
+    pub fn text(&self) -> &'a str {
+        self.lexer.input()
+    }
+
+    /// One token at a position, and the position afterwards.
+    pub fn parse(&self, position: usize) -> (Answer, usize) {
+        let mut after = position;
+        let answer = match self.lexer.parse(&mut after) {
+            Ok(None) => Answer::End,
+            Ok(Some(token)) => Answer::Token(Token(token)),
+            Err(error) => Answer::Fault(error.into()),
+        };
+        (answer, after)
+    }
+
+    /// The annotation at a position, which may be any.
+    pub fn annotation(&self, position: usize) -> Result<Option<Token>, Fault> {
+        match self.lexer.annotation(position) {
+            Ok(token) => Ok(token.map(Token)),
+            Err(error) => Err(error.into()),
+        }
+    }
+}
+
+/// Whether bytes are UTF-8: the text, or the two numbers of refusal 2 (0 for a text that ends inside a character).
+pub fn utf8(bytes: &[u8]) -> Result<&str, [u32; 2]> {
+    std::str::from_utf8(bytes).map_err(|error| numbers::of_utf8_error(&error))
+}

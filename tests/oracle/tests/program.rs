@@ -1,0 +1,123 @@
+//! The program: its output for `tokens` is that of document 01's `wat-tokens`.
+
+use std::io::Write;
+use std::process::{Command, Stdio};
+
+/// Runs the program on input that arrives in pieces of 1,000 bytes.
+fn run(words: &[&str], input: &[u8]) -> (Option<i32>, String) {
+    let mut program = Command::new(env!("CARGO_BIN_EXE_oracle"))
+        .args(words)
+        .stdin(Stdio::piped())
+        .stdout(Stdio::piped())
+        .stderr(Stdio::null())
+        .spawn()
+        .unwrap();
+    let mut stdin = program.stdin.take().unwrap();
+    for piece in input.chunks(1_000) {
+        stdin.write_all(piece).unwrap();
+        stdin.flush().unwrap();
+    }
+    drop(stdin);
+    let output = program.wait_with_output().unwrap();
+    (output.status.code(), String::from_utf8(output.stdout).unwrap())
+}
+
+fn check(words: &[&str], input: &[u8], lines: &[&str]) {
+    let expected: String = ["kind offset length detail"].iter().chain(lines).flat_map(|line| [line, "\n"]).collect();
+    assert_eq!(run(words, input), (Some(0), expected));
+}
+
+#[test]
+fn the_example_of_document_01() {
+    check(
+        &["tokens"],
+        b"-0x1_0;; x\n",
+        &["integer 0 6 minus,hex,underscores", "line-comment 6 4 -", "whitespace 10 1 -", "end 11 3"],
+    );
+}
+
+#[test]
+fn every_kind() {
+    check(
+        &["tokens"],
+        b"(;;)(\"a\" $a @a a A)10 +0x1 -1_0 inf -inf +nan -nan nan:0x1 -nan:0x1_0 1. 0x1.8 1e1_0;;",
+        &[
+            "block-comment 0 4 -",
+            "lparen 4 1 -",
+            "string 5 3 -",
+            "whitespace 8 1 -",
+            "id 9 2 -",
+            "whitespace 11 1 -",
+            "annotation 12 2 -",
+            "whitespace 14 1 -",
+            "keyword 15 1 -",
+            "whitespace 16 1 -",
+            "reserved 17 1 -",
+            "rparen 18 1 -",
+            "integer 19 2 none,dec,plain",
+            "whitespace 21 1 -",
+            "integer 22 4 plus,hex,plain",
+            "whitespace 26 1 -",
+            "integer 27 4 minus,dec,underscores",
+            "whitespace 31 1 -",
+            "inf 32 3 pos",
+            "whitespace 35 1 -",
+            "inf 36 4 neg",
+            "whitespace 40 1 -",
+            "nan 41 4 pos",
+            "whitespace 45 1 -",
+            "nan 46 4 neg",
+            "whitespace 50 1 -",
+            "nan-val 51 7 pos,plain",
+            "whitespace 58 1 -",
+            "nan-val 59 10 neg,underscores",
+            "whitespace 69 1 -",
+            "normal 70 2 dec,plain",
+            "whitespace 72 1 -",
+            "normal 73 5 hex,plain",
+            "whitespace 78 1 -",
+            "normal 79 5 dec,underscores",
+            "line-comment 84 2 -",
+            "end 86 36",
+        ],
+    );
+}
+
+#[test]
+fn last_lines() {
+    check(&["tokens"], b"", &["end 0 0"]);
+    check(&["tokens"], b"a \"\\q\"", &["keyword 0 1 -", "whitespace 1 1 -", "error 13 4"]);
+    check(&["tokens"], b"(;)", &["error 10 0"]);
+    // no token line where the text isn't UTF-8
+    check(&["tokens"], b"a b\xff", &["error 2 3"]);
+    check(&["tokens"], b"a b\xe2\x80", &["error 2 3"]);
+    check(&["tokens"], "(;\u{202e};)".as_bytes(), &["error 21 2"]);
+    check(&["tokens", "--allow-confusing"], "(;\u{202e};)".as_bytes(), &["block-comment 0 7 -", "end 7 1"]);
+}
+
+#[test]
+fn long_input() {
+    check(&["tokens"], &[b'a'; 32_768], &["keyword 0 32768 -", "end 32768 1"]);
+    check(&["tokens"], &[b'a'; 32_769], &["too-long"]);
+    check(&["tokens"], &[0xff; 32_768], &["error 2 0"]);
+    check(&["tokens"], &[0xff; 32_769], &["too-long"]);
+}
+
+#[test]
+fn rows() {
+    let (status, lex) = run(&["rows", "lex", "--rows", "50", "--seed", "7"], b"");
+    assert_eq!((status, lex.lines().count()), (Some(0), 50));
+    let (status, utf8) = run(&["rows", "utf8", "--rows", "50", "--seed", "7"], b"");
+    assert_eq!((status, utf8.lines().count()), (Some(0), 50));
+    assert_eq!(run(&["rows", "lex", "--rows", "50", "--seed", "7"], b""), (Some(0), lex));
+}
+
+#[test]
+fn usage() {
+    for words in [&[][..], &["token"], &["tokens", "x"], &["rows"], &["rows", "lex", "--rows"], &["rows", "lex", "9"]] {
+        assert_eq!(run(words, b""), (Some(2), String::new()), "{words:?}");
+    }
+    let (status, help) = run(&["--help"], b"");
+    assert_eq!(status, Some(0));
+    assert!(help.contains("oracle tokens") && help.contains("oracle rows"));
+}
