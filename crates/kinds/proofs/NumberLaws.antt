@@ -15,7 +15,7 @@ use Rattle.wat.specs.declared.FloatKind.{FloatKind}
 use Rattle.wat.specs.declared.FloatKind.the-variants.{Inf, Nan, NanVal, Normal}
 use Rattle.wat.specs.declared.TokenKind.{TokenKind}
 use Rattle.wat.specs.declared.TokenKind.the-variants.{LineComment, BlockComment, Whitespace, LParen, RParen, String, Id, Keyword, Annotation, Reserved, Integer, Float}
-use Rattle.wat.specs.Kinds.{kindNumber}
+use Rattle.wat.specs.Cases.{kindNumber}
 use Rattle.kinds.specs.Numbered.{Same, same, other}
 
 abbrev detail : ℕ → ℕ → Bool

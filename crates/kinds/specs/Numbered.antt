@@ -3,7 +3,7 @@ use Prim.Native.Nat.{ℕ}
 use mathlib.Core.Path.{_≡_}
 use mathlib.Core.Bool.{Bool, true, false}
 use Rattle.wat.specs.declared.TokenKind.{TokenKind}
-use Rattle.wat.specs.Kinds.{kindNumber}
+use Rattle.wat.specs.Cases.{kindNumber}
 use Rattle.kinds.specs.declared.Named.{Named}
 use Rattle.kinds.specs.declared.Named.the-variants.{Kind, NoKind}
 

@@ -2,7 +2,7 @@
 ghost use mathlib.Core.Path.{_≡_};
 ghost use Prim.Native.Nat.{_≤_, _/_, _%_};
 ghost use lib.Dec.{eqb};
-ghost use Rattle.wat.specs.Kinds.{flag as flag-of, signNumber, floatNumber, kindNumber, errorNumber, number};
+ghost use Rattle.wat.specs.Cases.{flag as flag-of, signNumber, floatNumber, kindNumber, errorNumber, number};
 ghost use Rattle.kinds.specs.Numbered.{Numbered, Same};
 use wat::FloatKind;
 use wat::IntegerKind;
@@ -154,7 +154,7 @@ pub fn kind_of(n: u16) -> Named
 }
 
 pub fn error_number(e: LexError) -> u8
-    ensures { λ r. ⌜ r ≡ errorNumber e ⌝ }
+    ensures { λ r. ⌜ r ≡ errorNumber e .0 ⌝ }
 {
     match e {
         LexError::DanglingBlockComment => 10,
@@ -181,7 +181,7 @@ pub fn error_number(e: LexError) -> u8
 }
 
 pub fn refusal_number(r: Refusal) -> u8
-    ensures { λ n. ⌜ n ≡ number r ⌝ }
+    ensures { λ n. ⌜ n ≡ number r .0 ⌝ }
 {
     match r {
         Refusal::TooLong => 1,
@@ -195,8 +195,6 @@ pub fn refusal_number(r: Refusal) -> u8
         Refusal::NotThatToken => 30,
         Refusal::NotThatKind => 31,
         Refusal::BufferTooShort => 32,
-        Refusal::ListFull => 33,
         Refusal::NoMessage => 34,
-        Refusal::CounterFull => 35,
     }
 }

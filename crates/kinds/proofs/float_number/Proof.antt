@@ -3,7 +3,7 @@
 use borrow.Author.Needs.{needs}
 use mathlib.Core.Path.{ap}
 use native.Mathlib.Omega.{arith}
-use Rattle.wat.specs.Kinds.{floatNumber}
+use Rattle.wat.specs.Cases.{floatNumber}
 use Rattle.kinds.proofs.float_number.Statement.{statement}
 use Rattle.kinds.proofs.float_number.Tie as tie
 

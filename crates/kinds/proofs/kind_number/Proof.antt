@@ -2,7 +2,7 @@
 -- Assumes nothing.
 use borrow.Author.Needs.{needs}
 use mathlib.Core.Path.{ap, sym, _∙_}
-use Rattle.wat.specs.Kinds.{kindNumber}
+use Rattle.wat.specs.Cases.{kindNumber}
 use Rattle.kinds.proofs.kind_number.Statement.{statement}
 use Rattle.kinds.proofs.kind_number.Tie as tie
 

@@ -2,7 +2,7 @@
 -- Assumes nothing.
 use borrow.Author.Needs.{needs}
 use mathlib.Core.Path.{sym, ap, _∙_}
-use Rattle.wat.specs.Kinds.{kindNumber}
+use Rattle.wat.specs.Cases.{kindNumber}
 use Rattle.kinds.specs.Numbered.{named, nameless}
 use Rattle.kinds.proofs.kind_of.Statement.{statement}
 use Rattle.kinds.proofs.kind_of.Tie as tie

@@ -2,7 +2,8 @@
 -- Assumes nothing.
 use borrow.Author.Needs.{needs}
 use mathlib.Core.Path.{ap, sym, _∙_}
-use Rattle.wat.specs.Kinds.{number}
+use Rattle.wat.specs.declared.Refusal.{Refusal}
+use Rattle.wat.specs.Cases.{number}
 use Rattle.kinds.proofs.refusal_number.Statement.{statement}
 use Rattle.kinds.proofs.refusal_number.Tie as tie
 
@@ -36,12 +37,6 @@ enum-told-7 c = search needs
 enum-told-8 : tie.Need-enum-told-8
 enum-told-8 c = search needs
 
-enum-told-9 : tie.Need-enum-told-9
-enum-told-9 c = search needs
-
-enum-told-10 : tie.Need-enum-told-10
-enum-told-10 c = search needs
-
 returns : tie.Need-returns
 returns c = search needs
 
@@ -55,7 +50,7 @@ returns-4 : tie.Need-returns-4
 returns-4 c = search needs
 
 returns-5 : tie.Need-returns-5
-returns-5 c = c .error-number .ensures ∙ sym (ap number (c .before .before .r .given .1))
+returns-5 c = c .error-number .ensures ∙ sym (ap (λ (r : Refusal). number r .0) (c .before .before .r .given .1))
 
 returns-6 : tie.Need-returns-6
 returns-6 c = search needs
@@ -68,12 +63,6 @@ returns-8 c = search needs
 
 returns-9 : tie.Need-returns-9
 returns-9 c = search needs
-
-returns-10 : tie.Need-returns-10
-returns-10 c = search needs
-
-returns-11 : tie.Need-returns-11
-returns-11 c = search needs
 
 pub refusal-number-spec : {M : Type 1} → statement M
 refusal-number-spec =
@@ -89,8 +78,6 @@ refusal-number-spec =
     enum-told-6
     enum-told-7
     enum-told-8
-    enum-told-9
-    enum-told-10
     returns
     returns-2
     returns-3
@@ -99,6 +86,4 @@ refusal-number-spec =
     returns-6
     returns-7
     returns-8
-    returns-9
-    returns-10
-    returns-11)
+    returns-9)
