@@ -1,0 +1,3 @@
+pub mod FollowLaws
+pub mod ScalarLaws
+pub mod DecodeLaws
