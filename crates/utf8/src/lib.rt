@@ -5,10 +5,14 @@ ghost use mathlib.Core.Path.{_≡_};
 ghost use mathlib.Core.List.{[], _∷_};
 ghost use Prim.Native.Nat.{ℕ, _+_, _≤_, _<_};
 ghost use lib.ListN.{length, getD, take, drop};
-ghost use Rattle.wat.specs.Utf8.{table, _‥_, scalar};
-ghost use Rattle.wat.specs.Utf8Model.{find, follow, front};
+ghost use Rattle.wat.specs.Utf8.{table, _‥_, scalar, WellFormed, Says};
+ghost use Rattle.wat.specs.Utf8Model.{find, follow, front, scan};
+ghost use Rattle.wat.specs.StringModel.{encode};
 ghost use Rattle.utf8.specs.Decoding.{Decodes};
 ghost use Rattle.utf8.specs.Fronts.{rowOf, seenOf, frontOf};
+ghost use Rattle.utf8.specs.Boundary.{Boundary};
+ghost use Rattle.utf8.specs.Writing.{Put, Encoded};
+use wat::Checked;
 
 // What stands at a place: a character of so many bytes, a wrong start of so many, or the start of a character that the text cuts off.
 pub enum Front {
@@ -180,5 +184,120 @@ pub fn decode(s: &[u8], at: usize) -> Decoded
         },
         Front::Wrong(_) => Decoded::Nothing,
         Front::Cut => Decoded::Nothing,
+    }
+}
+
+// The check from a place on at which a character starts.
+fn check_from(s: &[u8], at: usize) -> Checked
+    requires { ⌜ at ≤ length (now s) ⌝ }
+    ensures { λ r. ⌜ r ≡ scan at 0 (drop at (now (s .entry))) ⌝ }
+{
+    let mut i = at;
+    while i < s.len() {
+        match front_at(s, i) {
+            Front::Whole(n) => {
+                i += n;
+            }
+            Front::Wrong(k) => {
+                return Checked::Bad {
+                    valid_up_to: i,
+                    error_len: k,
+                };
+            }
+            Front::Cut => {
+                return Checked::Bad {
+                    valid_up_to: i,
+                    error_len: 0,
+                };
+            }
+        }
+    }
+    Checked::Ok
+}
+
+// Whether a text is well formed, or where it goes wrong, as `std::str::from_utf8` says.
+pub fn check(s: &[u8]) -> Checked
+    ensures { λ r. ⌜ Says (now (s .entry)) r ⌝ }
+{
+    check_from(s, 0)
+}
+
+// Whether a character of a well-formed text starts at a place, or the text ends there.
+pub fn is_char_boundary(s: &[u8], at: usize) -> bool
+    requires { ⌜ WellFormed (now s) × (at ≤ length (now s)) ⌝ }
+    ensures { λ r. ⌜ Boundary (now (s .entry)) at r ⌝ }
+{
+    if at >= s.len() {
+        return true;
+    }
+    let b = s[at];
+    if b < 0x80 {
+        return true;
+    }
+    if b < 0xC0 {
+        return false;
+    }
+    true
+}
+
+// How many bytes a scalar value has.
+pub fn len_utf8(v: u32) -> usize
+    ensures { λ r. ⌜ r ≡ length (encode v) ⌝ }
+{
+    if v < 0x80 {
+        return 1;
+    }
+    if v < 0x800 {
+        return 2;
+    }
+    if v < 0x10000 {
+        return 3;
+    }
+    4
+}
+
+fn low(x: u32) -> u8
+    requires { ⌜ x < 256 ⌝ }
+    ensures { λ r. ⌜ r ≡ x ⌝ }
+{
+    x as u8
+}
+
+// The bytes of a scalar value, written at a place of a buffer that has the room; how many they are.
+pub fn encode_utf8(dst: &mut [u8], to: usize, v: u32) -> usize
+    requires { ⌜ (v < 0x110000) × (to + length (encode v) ≤ length (now dst)) ⌝ }
+    ensures { λ r. ⌜ Encoded (now (dst .entry)) (now (dst .exit)) to v r ⌝ }
+{
+    if v < 0x80 {
+        dst[to] = low(v);
+        return 1;
+    }
+    if v < 0x800 {
+        dst[to] = low(0xC0 + v / 0x40);
+        dst[to + 1] = low(0x80 + v % 0x40);
+        return 2;
+    }
+    if v < 0x10000 {
+        dst[to] = low(0xE0 + v / 0x1000);
+        dst[to + 1] = low(0x80 + v / 0x40 % 0x40);
+        dst[to + 2] = low(0x80 + v % 0x40);
+        return 3;
+    }
+    dst[to] = low(0xF0 + v / 0x40000);
+    dst[to + 1] = low(0x80 + v / 0x1000 % 0x40);
+    dst[to + 2] = low(0x80 + v / 0x40 % 0x40);
+    dst[to + 3] = low(0x80 + v % 0x40);
+    4
+}
+
+// n bytes of one slice, from a place on, written at a place of another.
+pub fn copy(dst: &mut [u8], to: usize, src: &[u8], from: usize, n: usize)
+    requires { ⌜ (to + n ≤ length (now dst)) × (from + n ≤ length (now src)) ⌝ }
+    ensures { λ _. ⌜ Put (now (dst .entry)) (now (dst .exit)) to (take n (drop from (now (src .entry)))) ⌝ }
+{
+    let mut k: usize = 0;
+    while k < n {
+        dst[to + k] = src[from + k];
+        k += 1;
     }
 }
