@@ -15,6 +15,7 @@ use Rattle.wat.specs.Utf8Model.{pick}
 use Rattle.wat.proofs.Utf8Laws.{char-full, pick-both, never}
 use Rattle.wat.proofs.Scalars.{All, all-listed, below}
 use Rattle.wat.proofs.Hexnums.{differ}
+use Rattle.utf8.specs.Following.{Continues}
 use Rattle.utf8.specs.Boundary.{Boundary}
 
 -- the table's ranges
@@ -30,10 +31,6 @@ leading (lo ‥ hi ∷ rs) = pick (pick (leb hi 0x7F) true (leb 0xC0 lo)) (trail
 table-leading : All (λ row. leading row ≡ true) table
 unfolding table
 table-leading = (refl, (refl, (refl, (refl, (refl, (refl, (refl, (refl, (refl, tt)))))))))
-
--- a byte that only continues a character
-abbrev pub Continues : ℕ → Type 0
-Continues b = (0x80 ≤ b) × (b < 0xC0)
 
 fits-trailing : {rs : List Range} {c : List ℕ} → Fits rs c → trailing rs ≡ true → (i : ℕ) → i < length c → Continues (getD c i 0)
 fits-trailing done e i h = absurd (omega arith)

@@ -5,3 +5,5 @@ pub mod ScanLaws
 pub mod PutLaws
 pub mod EncodeLaws
 pub mod BoundaryLaws
+pub mod FollowingLaws
+pub mod ResumeLaws

@@ -1,16 +1,19 @@
--- `utf8::check` meets its contract: the model's check says what is asked. Assumes nothing.
+-- `utf8::check` meets its contract: the check that goes on behind the blocks gives the model's answer, which says what is asked.
+-- Assumes nothing.
+use mathlib.Core.Path.{_∙_}
 use borrow.Author.Needs.{needs}
-use Rattle.wat.specs.Utf8Model.{checked}
 use Rattle.utf8.proofs.ScanLaws.{says-of-model}
 use Rattle.utf8.proofs.check.Statement.{statement}
 use Rattle.utf8.proofs.check.Tie as tie
 
+pass-blocks-requires : tie.Need-pass-blocks-requires
+pass-blocks-requires c κs = search needs
+
 check-from-requires : tie.Need-check-from-requires
-check-from-requires c κs = search needs
+check-from-requires c κs = c .pass-blocks .ensures .within
 
 returns : tie.Need-returns
-unfolding checked
-returns c = says-of-model _ _ (c .check-from .ensures)
+returns c = says-of-model _ _ (c .check-from .ensures ∙ c .before .pass-blocks .ensures .same)
 
 pub check-spec : {M : Type 1} → statement M
-check-spec = tie.close (tie.spec check-from-requires returns)
+check-spec = tie.close (tie.spec pass-blocks-requires check-from-requires returns)

@@ -8,7 +8,7 @@ use borrow.Author.Needs.{needs}
 use Rattle.wat.specs.Utf8Model.{scan}
 use Rattle.utf8.specs.Fronts.{frontOf}
 use Rattle.utf8.proofs.DecodeLaws.{front-char}
-use Rattle.utf8.proofs.ScanLaws.{scan-whole, scan-wrong, scan-cut, scan-end}
+use Rattle.utf8.proofs.ScanLaws.{scan-whole, scan-ascii, scan-wrong, scan-cut, scan-end}
 use Rattle.utf8.proofs.check_from.Statement.{statement}
 use Rattle.utf8.proofs.check_from.Tie as tie
 
@@ -21,8 +21,22 @@ abbrev μ-loop : tie.MeasureT-loop
 loop-holds : tie.Need-loop-holds Inv-loop μ-loop
 loop-holds c = (c .before .pre, refl)
 
+shared-slice-read-if1 : tie.Need-shared-slice-read-if1 Inv-loop μ-loop
+shared-slice-read-if1 c = omega arith
+
+add-i : tie.Need-add-i Inv-loop μ-loop
+add-i c = omega arith
+
+loop-less : tie.Need-loop-less Inv-loop μ-loop
+loop-less c = omega arith
+
+loop-again : tie.Need-loop-again Inv-loop μ-loop
+loop-again c =
+    let l = c .before .before .before .loop in
+    (omega arith, sym (scan-ascii (c .before .before .before .before .before .args .s .now) (l .i) (omega arith) (c .if1 .taken)) ∙ l .inv .1)
+
 front-at-requires : tie.Need-front-at-requires Inv-loop μ-loop
-front-at-requires c κs = search needs
+front-at-requires c κs = omega arith
 
 enum-known-n : tie.Need-enum-known-n Inv-loop μ-loop
 enum-known-n c = search needs
@@ -35,11 +49,11 @@ record Passed (s : List ℕ) (at i j : ℕ) : Type 0 where
 
 passed :
     (c : tie.After-known-told Inv-loop μ-loop)
-    → Passed (c .before .before .before .before .before .before .before .args .s .now) (c .before .before .before .before .before .before .before .args .at)
-    (c .before .before .before .before .before .loop .i) (c .before .before .before .before .before .loop .i + c .before .n .given .0 .0)
+    → Passed (c .before .before .before .before .before .before .before .before .before .args .s .now) (c .before .before .before .before .before .before .before .before .before .args .at)
+    (c .before .before .before .before .before .before .before .loop .i) (c .before .before .before .before .before .before .before .loop .i + c .before .n .given .0 .0)
 passed c =
-    let s = c .before .before .before .before .before .before .before .args .s .now in
-    let l = c .before .before .before .before .before .loop in
+    let s = c .before .before .before .before .before .before .before .before .before .args .s .now in
+    let l = c .before .before .before .before .before .before .before .loop in
     let n = c .before .n .given .0 .0 in
     let e = sym (c .before .before .before .front-at .ensures) ∙ ap frontOf (c .before .n .given .1) in
     let f = front-char (drop (l .i) s) n e in
@@ -49,21 +63,21 @@ passed c =
       goes = sym (scan-whole s (l .i) (omega arith) n e) ∙ l .inv .1;
     }
 
-add-i : tie.Need-add-i Inv-loop μ-loop
-add-i c = let p = passed c in omega arith
+add-i-2 : tie.Need-add-i-2 Inv-loop μ-loop
+add-i-2 c = let p = passed c in omega arith
 
-loop-less : tie.Need-loop-less Inv-loop μ-loop
-loop-less c = let p = passed c in omega arith
+loop-less-2 : tie.Need-loop-less-2 Inv-loop μ-loop
+loop-less-2 c = let p = passed c in omega arith
 
-loop-again : tie.Need-loop-again Inv-loop μ-loop
-loop-again c = let p = passed c in (p .fits, p .goes)
+loop-again-2 : tie.Need-loop-again-2 Inv-loop μ-loop
+loop-again-2 c = let p = passed c in (p .fits, p .goes)
 
 enum-known-k : tie.Need-enum-known-k Inv-loop μ-loop
 enum-known-k c = search needs
 
 returns : tie.Need-returns Inv-loop μ-loop
 returns c =
-    let l = c .before .before .before .before .before .loop in
+    let l = c .before .before .before .before .before .before .before .loop in
     sym (scan-wrong _ (l .i) (omega arith) _ (sym (c .before .before .before .front-at .ensures) ∙ ap frontOf (c .before .k .given .1))) ∙ l .inv .1
 
 enum-told : tie.Need-enum-told Inv-loop μ-loop
@@ -71,7 +85,7 @@ enum-told c = search needs
 
 returns-2 : tie.Need-returns-2 Inv-loop μ-loop
 returns-2 c =
-    let l = c .before .before .before .before .loop in
+    let l = c .before .before .before .before .before .before .loop in
     sym (scan-cut _ (l .i) (omega arith) (sym (c .before .before .front-at .ensures) ∙ ap frontOf (c .enum-told .given .1))) ∙ l .inv .1
 
 returns-3 : tie.Need-returns-3 Inv-loop μ-loop
@@ -84,11 +98,15 @@ check-from-spec =
     Inv-loop
     μ-loop
     loop-holds
-    front-at-requires
-    enum-known-n
+    shared-slice-read-if1
     add-i
     loop-less
     loop-again
+    front-at-requires
+    enum-known-n
+    add-i-2
+    loop-less-2
+    loop-again-2
     enum-known-k
     returns
     enum-told
