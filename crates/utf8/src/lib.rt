@@ -2,14 +2,14 @@
 // said by the Unicode Standard's table of well-formed sequences, `wat/specs/Utf8.antt`.
 
 ghost use mathlib.Core.Path.{_≡_};
-ghost use mathlib.Core.List.{[], _∷_};
+ghost use mathlib.Core.List.{_∷_};
 ghost use Prim.Native.Nat.{ℕ, _+_, _-_, _≤_, _<_};
 ghost use lib.ListN.{length, getD, take, drop};
 ghost use Rattle.wat.specs.Utf8.{table, _‥_, scalar, WellFormed, Says};
-ghost use Rattle.wat.specs.Utf8Model.{find, follow, front, scan};
+ghost use Rattle.wat.specs.Utf8Model.{has, find, follow, front, scan};
 ghost use Rattle.wat.specs.StringModel.{encode};
 ghost use Rattle.utf8.specs.Decoding.{Decodes};
-ghost use Rattle.utf8.specs.Fronts.{rowOf, seenOf, frontOf};
+ghost use Rattle.utf8.specs.Fronts.{trailing, rowOf, frontOf};
 ghost use Rattle.utf8.specs.Following.{Placed, Low, Follows, Right, Begins, Resumes};
 ghost use Rattle.utf8.specs.Boundary.{Boundary};
 ghost use Rattle.utf8.specs.Writing.{Put, Encoded};
@@ -35,13 +35,6 @@ enum Lead {
     Two,
     Three(u8, u8),
     Four(u8, u8),
-}
-
-// A byte against a range, or the end of the text.
-enum Seen {
-    In,
-    Out,
-    End,
 }
 
 fn row_of(a: u8) -> Lead
@@ -80,54 +73,48 @@ fn row_of(a: u8) -> Lead
     Lead::Never
 }
 
-fn see(s: &[u8], i: usize, lo: u8, hi: u8) -> Seen
-    ensures { λ r. ⌜ r ≡ seenOf (drop i (now (s .entry))) (lo ‥ hi) ⌝ }
+fn within(b: u8, lo: u8, hi: u8) -> bool
+    ensures { λ r. ⌜ r ≡ has (lo ‥ hi) b ⌝ }
 {
-    if i >= s.len() {
-        return Seen::End;
-    }
-    let b = s[i];
     if b < lo {
-        return Seen::Out;
+        return false;
     }
     if hi < b {
-        return Seen::Out;
+        return false;
     }
-    Seen::In
+    true
 }
 
-// One byte more, two, or three, after k that fit.
-fn follow1(s: &[u8], i: usize, k: usize, lo: u8, hi: u8) -> Front
-    requires { ⌜ k < 8 ⌝ }
-    ensures { λ r. ⌜ frontOf r ≡ follow k (lo ‥ hi ∷ []) (drop i (now (s .entry))) ⌝ }
+// The bytes after the first: one in a range, and then n from 0x80 to 0xBF.
+fn rest_at(s: &[u8], at: usize, lo: u8, hi: u8, n: usize) -> Front
+    requires { ⌜ (at < length (now s)) × (n ≤ 2) ⌝ }
+    ensures { λ r. ⌜ frontOf r ≡ follow 1 (lo ‥ hi ∷ trailing n) (drop (at + 1) (now (s .entry))) ⌝ }
 {
-    match see(s, i, lo, hi) {
-        Seen::In => Front::Whole(k + 1),
-        Seen::Out => Front::Wrong(k),
-        Seen::End => Front::Cut,
+    if at + 1 >= s.len() {
+        return Front::Cut;
     }
-}
-
-fn follow2(s: &[u8], i: usize, k: usize, lo: u8, hi: u8) -> Front
-    requires { ⌜ k < 7 ⌝ }
-    ensures { λ r. ⌜ frontOf r ≡ follow k (lo ‥ hi ∷ 0x80 ‥ 0xBF ∷ []) (drop i (now (s .entry))) ⌝ }
-{
-    match see(s, i, lo, hi) {
-        Seen::In => follow1(s, i + 1, k + 1, 0x80, 0xBF),
-        Seen::Out => Front::Wrong(k),
-        Seen::End => Front::Cut,
+    if !within(s[at + 1], lo, hi) {
+        return Front::Wrong(1);
     }
-}
-
-fn follow3(s: &[u8], i: usize, k: usize, lo: u8, hi: u8) -> Front
-    requires { ⌜ k < 6 ⌝ }
-    ensures { λ r. ⌜ frontOf r ≡ follow k (lo ‥ hi ∷ 0x80 ‥ 0xBF ∷ 0x80 ‥ 0xBF ∷ []) (drop i (now (s .entry))) ⌝ }
-{
-    match see(s, i, lo, hi) {
-        Seen::In => follow2(s, i + 1, k + 1, 0x80, 0xBF),
-        Seen::Out => Front::Wrong(k),
-        Seen::End => Front::Cut,
+    if n == 0 {
+        return Front::Whole(2);
     }
+    if at + 2 >= s.len() {
+        return Front::Cut;
+    }
+    if !within(s[at + 2], 0x80, 0xBF) {
+        return Front::Wrong(2);
+    }
+    if n == 1 {
+        return Front::Whole(3);
+    }
+    if at + 3 >= s.len() {
+        return Front::Cut;
+    }
+    if !within(s[at + 3], 0x80, 0xBF) {
+        return Front::Wrong(3);
+    }
+    Front::Whole(4)
 }
 
 pub fn front_at(s: &[u8], at: usize) -> Front
@@ -138,9 +125,9 @@ pub fn front_at(s: &[u8], at: usize) -> Front
     match row_of(a) {
         Lead::Never => Front::Wrong(1),
         Lead::Alone => Front::Whole(1),
-        Lead::Two => follow1(s, at + 1, 1, 0x80, 0xBF),
-        Lead::Three(lo, hi) => follow2(s, at + 1, 1, lo, hi),
-        Lead::Four(lo, hi) => follow3(s, at + 1, 1, lo, hi),
+        Lead::Two => rest_at(s, at, 0x80, 0xBF, 0),
+        Lead::Three(lo, hi) => rest_at(s, at, lo, hi, 1),
+        Lead::Four(lo, hi) => rest_at(s, at, lo, hi, 2),
     }
 }
 

@@ -1,3 +1,4 @@
+-- `utf8::front_at` meets its contract: the first byte's row, and then the bytes after it. Assumes nothing.
 use mathlib.Core.Path.{sym, ap, _∙_}
 use native.Mathlib.Omega.{arith}
 use Rattle.utf8.specs.Fronts.{rowOf}
@@ -21,29 +22,20 @@ enum-told-2 c = search needs
 enum-told-3 : tie.Need-enum-told-3
 enum-told-3 c = search needs
 
-add-follow1 : tie.Need-add-follow1
-add-follow1 c = search needs
-
-follow1-requires : tie.Need-follow1-requires
-follow1-requires c κs = search needs
+rest-at-requires : tie.Need-rest-at-requires
+rest-at-requires c κs = search needs
 
 enum-known-lo : tie.Need-enum-known-lo
 enum-known-lo c = search needs
 
-add-follow2 : tie.Need-add-follow2
-add-follow2 c = search needs
-
-follow2-requires : tie.Need-follow2-requires
-follow2-requires c κs = search needs
+rest-at-requires-2 : tie.Need-rest-at-requires-2
+rest-at-requires-2 c κs = search needs
 
 enum-known-lo-2 : tie.Need-enum-known-lo-2
 enum-known-lo-2 c = search needs
 
-add-follow3 : tie.Need-add-follow3
-add-follow3 c = search needs
-
-follow3-requires : tie.Need-follow3-requires
-follow3-requires c κs = search needs
+rest-at-requires-3 : tie.Need-rest-at-requires-3
+rest-at-requires-3 c κs = search needs
 
 returns : tie.Need-returns
 returns c = let a = c .before .before .before .before .before .args in sym (front-row (a .s .now) (a .at) _ (omega arith) (c .before .before .row-of .ensures ∙ ap rowOf (c .enum-told .given .1)))
@@ -52,13 +44,13 @@ returns-2 : tie.Need-returns-2
 returns-2 c = let a = c .before .before .before .before .before .args in sym (front-row (a .s .now) (a .at) _ (omega arith) (c .before .before .row-of .ensures ∙ ap rowOf (c .enum-told2 .given .1)))
 
 returns-3 : tie.Need-returns-3
-returns-3 c = let a = c .before .before .before .before .before .before .args in c .follow1 .ensures ∙ sym (front-row (a .s .now) (a .at) _ (omega arith) (c .before .before .before .row-of .ensures ∙ ap rowOf (c .before .enum-told3 .given .1)))
+returns-3 c = let a = c .before .before .before .before .before .before .args in c .rest-at .ensures ∙ sym (front-row (a .s .now) (a .at) _ (omega arith) (c .before .before .before .row-of .ensures ∙ ap rowOf (c .before .enum-told3 .given .1)))
 
 returns-4 : tie.Need-returns-4
-returns-4 c = let a = c .before .before .before .before .before .before .before .args in c .follow2 .ensures ∙ sym (front-row (a .s .now) (a .at) _ (omega arith) (c .before .before .before .before .row-of .ensures ∙ ap rowOf (c .before .before .lo .given .1)))
+returns-4 c = let a = c .before .before .before .before .before .before .before .args in c .rest-at2 .ensures ∙ sym (front-row (a .s .now) (a .at) _ (omega arith) (c .before .before .before .before .row-of .ensures ∙ ap rowOf (c .before .before .lo .given .1)))
 
 returns-5 : tie.Need-returns-5
-returns-5 c = let a = c .before .before .before .before .before .before .before .args in c .follow3 .ensures ∙ sym (front-row (a .s .now) (a .at) _ (omega arith) (c .before .before .before .before .row-of .ensures ∙ ap rowOf (c .before .before .lo2 .given .1)))
+returns-5 c = let a = c .before .before .before .before .before .before .before .args in c .rest-at3 .ensures ∙ sym (front-row (a .s .now) (a .at) _ (omega arith) (c .before .before .before .before .row-of .ensures ∙ ap rowOf (c .before .before .lo2 .given .1)))
 
 pub front-at-spec : {M : Type 1} → statement M
 front-at-spec =
@@ -69,14 +61,11 @@ front-at-spec =
     enum-told
     enum-told-2
     enum-told-3
-    add-follow1
-    follow1-requires
+    rest-at-requires
     enum-known-lo
-    add-follow2
-    follow2-requires
+    rest-at-requires-2
     enum-known-lo-2
-    add-follow3
-    follow3-requires
+    rest-at-requires-3
     returns
     returns-2
     returns-3
