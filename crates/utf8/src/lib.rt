@@ -3,17 +3,18 @@
 
 ghost use mathlib.Core.Path.{_≡_};
 ghost use mathlib.Core.List.{_∷_};
-ghost use Prim.Native.Nat.{ℕ, _+_, _-_, _≤_, _<_};
-ghost use lib.ListN.{length, getD, take, drop};
+ghost use Prim.Native.Nat.{_+_, _≤_, _<_};
+ghost use lib.ListN.{length, take, drop};
 ghost use Rattle.wat.specs.Utf8.{table, _‥_, scalar, WellFormed, Says};
 ghost use Rattle.wat.specs.Utf8Model.{has, find, follow, front, scan};
 ghost use Rattle.wat.specs.StringModel.{encode};
-ghost use Rattle.utf8.specs.Decoding.{Decodes};
+ghost use Rattle.utf8.specs.Decoding.{Character, Decodes};
 ghost use Rattle.utf8.specs.Fronts.{trailing, rowOf, frontOf};
-ghost use Rattle.utf8.specs.Following.{Placed, Low, Follows, Right, Begins, Resumes};
 ghost use Rattle.utf8.specs.Boundary.{Boundary};
 ghost use Rattle.utf8.specs.Writing.{Put, Encoded};
 use wat::Checked;
+
+mod blocks;
 
 // What stands at a place: a character of so many bytes, a wrong start of so many, or the start of a character that the text cuts off.
 pub enum Front {
@@ -175,6 +176,24 @@ pub fn decode(s: &[u8], at: usize) -> Decoded
     }
 }
 
+// How many bytes the character at a place of a well-formed text has: its first byte says it.
+pub fn width_at(s: &[u8], at: usize) -> usize
+    requires { ⌜ (at < length (now s)) × WellFormed (drop at (now s)) ⌝ }
+    ensures { λ r. ⌜ Character (now (s .entry)) at (scalar (take r (drop at (now (s .entry))))) r ⌝ }
+{
+    let b = s[at];
+    if b < 0x80 {
+        return 1;
+    }
+    if b < 0xE0 {
+        return 2;
+    }
+    if b < 0xF0 {
+        return 3;
+    }
+    4
+}
+
 // The check from a place on at which a character starts.
 fn check_from(s: &[u8], at: usize) -> Checked
     requires { ⌜ at ≤ length (now s) ⌝ }
@@ -207,158 +226,11 @@ fn check_from(s: &[u8], at: usize) -> Checked
     Checked::Ok
 }
 
-// How far x is above y, and 0 where it is not.
-fn above(x: u8, y: u8) -> u8
-    ensures { λ r. ⌜ r ≡ x - y ⌝ }
-{
-    if x > y { x - y } else { 0 }
-}
-
-// 0 if b continues a character exactly where n, which is not 0, asks for that.
-fn misplaced(n: u8, b: u8) -> u8
-    ensures { λ r. ⌜ (r ≡ 0 → Placed n b) ⌝ }
-{
-    if b < 0x80 {
-        return n;
-    }
-    if b >= 0xC0 {
-        return n;
-    }
-    if n == 0 { 1 } else { 0 }
-}
-
-// The least and the greatest byte that may follow p, where p has a range of its own.
-fn least(p: u8) -> u8
-    ensures { λ r. ⌜ (p ≡ 0xE0 → 0xA0 ≤ r) × (p ≡ 0xF0 → 0x90 ≤ r) ⌝ }
-{
-    if p == 0xE0 {
-        return 0xA0;
-    }
-    if p == 0xF0 {
-        return 0x90;
-    }
-    0
-}
-
-fn greatest(p: u8) -> u8
-    ensures { λ r. ⌜ (p ≡ 0xED → r ≤ 0x9F) × (p ≡ 0xF4 → r ≤ 0x8F) ⌝ }
-{
-    if p == 0xED {
-        return 0x9F;
-    }
-    if p == 0xF4 {
-        return 0x8F;
-    }
-    0xFF
-}
-
-// 0 if b stands somewhere in UTF-8.
-fn unused(b: u8) -> u8
-    ensures { λ r. ⌜ (r ≡ 0 → 0xC0 ≤ b → (0xC2 ≤ b) × (b ≤ 0xF4)) ⌝ }
-{
-    if b == 0xC0 {
-        return 1;
-    }
-    if b == 0xC1 {
-        return 1;
-    }
-    above(b, 0xF4)
-}
-
-// 0 if b may stand after r, q and p. No branch depends on the bytes, so that a loop over this becomes vector code.
-fn wrong(r: u8, q: u8, p: u8, b: u8) -> u8
-    ensures { λ e. ⌜ (e ≡ 0 → Follows r q p b) ⌝ }
-{
-    let n = above(p, 0xBF) | above(q, 0xDF) | above(r, 0xEF);
-    misplaced(n, b) | above(least(p), b) | above(b, greatest(p)) | unused(b)
-}
-
-// 0 if 64 bytes are ASCII.
-fn high_in_block(s: &[u8], from: usize) -> u8
-    requires { ⌜ from + 64 ≤ length (now s) ⌝ }
-    ensures { λ r. ⌜ (r ≡ 0 → Low (now (s .entry)) from (from + 64)) ⌝ }
-{
-    let mut all: u8 = 0;
-    let mut k: usize = 0;
-    while k < 64 {
-        all |= above(s[from + k], 0x7F);
-        k += 1;
-    }
-    all
-}
-
-// 0 if 64 bytes stand right, the first of them three bytes from the place.
-fn wrong_in_block(s: &[u8], from: usize) -> u8
-    requires { ⌜ from + 67 ≤ length (now s) ⌝ }
-    ensures { λ r. ⌜ (r ≡ 0 → Right (now (s .entry)) from (from + 64)) ⌝ }
-{
-    let mut all: u8 = 0;
-    let mut k: usize = 0;
-    while k < 64 {
-        let i = from + k;
-        all |= wrong(s[i], s[i + 1], s[i + 2], s[i + 3]);
-        k += 1;
-    }
-    all
-}
-
-// The first place that no block of bytes that stand right goes past. Of 64 ASCII bytes the last three are looked at again.
-fn blocks(s: &[u8]) -> usize
-    requires { ⌜ 3 ≤ length (now s) ⌝ }
-    ensures { λ r. ⌜ (r + 3 ≤ length (now (s .entry))) × Right (now (s .entry)) 0 r ⌝ }
-{
-    let mut i: usize = 0;
-    while 67 <= s.len() - i {
-        if high_in_block(s, i) == 0 {
-            i += 61;
-        } else {
-            if wrong_in_block(s, i) != 0 {
-                return i;
-            }
-            i += 64;
-        }
-    }
-    i
-}
-
-// Where the last character starts that is not whole within three bytes more, if there is one.
-fn start_before(s: &[u8], i: usize) -> usize
-    requires { ⌜ (i + 3 ≤ length (now s)) × Begins (getD (now s) 0 0) (getD (now s) 1 0) (getD (now s) 2 0) × Right (now s) 0 i ⌝ }
-    ensures { λ r. ⌜ Resumes (now (s .entry)) r ⌝ }
-{
-    if s[i + 2] >= 0xC0 {
-        return i + 2;
-    }
-    if s[i + 1] >= 0xE0 {
-        return i + 1;
-    }
-    if s[i] >= 0xF0 {
-        return i;
-    }
-    i + 3
-}
-
-// A place before which nothing is wrong.
-fn pass_blocks(s: &[u8]) -> usize
-    ensures { λ r. ⌜ Resumes (now (s .entry)) r ⌝ }
-{
-    if s.len() < 67 {
-        return 0;
-    }
-    let a = s[0];
-    let b = s[1];
-    let c = s[2];
-    if (wrong(0, 0, 0, a) | wrong(0, 0, a, b) | wrong(0, a, b, c)) != 0 {
-        return 0;
-    }
-    start_before(s, blocks(s))
-}
-
 // Whether a text is well formed, or where it goes wrong, as `std::str::from_utf8` says.
 pub fn check(s: &[u8]) -> Checked
     ensures { λ r. ⌜ Says (now (s .entry)) r ⌝ }
 {
-    check_from(s, pass_blocks(s))
+    check_from(s, blocks::pass(s))
 }
 
 // Whether a character of a well-formed text starts at a place, or the text ends there.

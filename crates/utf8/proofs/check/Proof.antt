@@ -6,14 +6,14 @@ use Rattle.utf8.proofs.ScanLaws.{says-of-model}
 use Rattle.utf8.proofs.check.Statement.{statement}
 use Rattle.utf8.proofs.check.Tie as tie
 
-pass-blocks-requires : tie.Need-pass-blocks-requires
-pass-blocks-requires c κs = search needs
+pass-requires : tie.Need-pass-requires
+pass-requires c κs = search needs
 
 check-from-requires : tie.Need-check-from-requires
-check-from-requires c κs = c .pass-blocks .ensures .within
+check-from-requires c κs = c .pass .ensures .within
 
 returns : tie.Need-returns
-returns c = says-of-model _ _ (c .check-from .ensures ∙ c .before .pass-blocks .ensures .same)
+returns c = says-of-model _ _ (c .check-from .ensures ∙ c .before .pass .ensures .same)
 
 pub check-spec : {M : Type 1} → statement M
-check-spec = tie.close (tie.spec pass-blocks-requires check-from-requires returns)
+check-spec = tie.close (tie.spec pass-requires check-from-requires returns)

@@ -1,9 +1,9 @@
--- `utf8::start_before` meets its contract: the last three bytes tell how many of them begin a character that is not whole. Assumes nothing.
+-- `utf8::blocks::start_before` meets its contract: the last three bytes tell how many of them begin a character that is not whole. Assumes nothing.
 use native.Mathlib.Omega.{arith}
 use Rattle.utf8.proofs.ResumeLaws.{from-last, from-second, from-third, from-end}
 use borrow.Author.Needs.{needs}
-use Rattle.utf8.proofs.start_before.Statement.{statement}
-use Rattle.utf8.proofs.start_before.Tie as tie
+use Rattle.utf8.proofs.blocks.start_before.Statement.{statement}
+use Rattle.utf8.proofs.blocks.start_before.Tie as tie
 
 add-if1 : tie.Need-add-if1
 add-if1 c = search needs

@@ -1,11 +1,11 @@
--- `utf8::blocks` meets its contract. The loop's invariant: each byte up to the third after the place stands right. Assumes nothing.
+-- `utf8::blocks::right_to` meets its contract. The loop's invariant: each byte up to the third after the place stands right. Assumes nothing.
 use Prim.Native.Nat.{_+_, _-_, _≤_}
 use native.Mathlib.Omega.{arith}
 use lib.ListN.{length}
 use Rattle.utf8.specs.Following.{Right}
 use Rattle.utf8.proofs.FollowingLaws.{low-right, right-join}
-use Rattle.utf8.proofs.blocks.Statement.{statement}
-use Rattle.utf8.proofs.blocks.Tie as tie
+use Rattle.utf8.proofs.blocks.right_to.Statement.{statement}
+use Rattle.utf8.proofs.blocks.right_to.Tie as tie
 
 abbrev Inv-loop : tie.InvT-loop
 Inv-loop s i₀ i = (i + 3 ≤ length s) × Right s 0 i
@@ -19,8 +19,8 @@ loop-holds c = (omega arith, λ m h k. absurd (omega arith))
 sub-loop : tie.Need-sub-loop Inv-loop μ-loop
 sub-loop c = omega arith
 
-high-in-block-requires : tie.Need-high-in-block-requires Inv-loop μ-loop
-high-in-block-requires c κs = omega arith
+high-in-requires : tie.Need-high-in-requires Inv-loop μ-loop
+high-in-requires c κs = omega arith
 
 add-i : tie.Need-add-i Inv-loop μ-loop
 add-i c = omega arith
@@ -32,10 +32,10 @@ loop-again : tie.Need-loop-again Inv-loop μ-loop
 loop-again c =
     let s = c .before .before .before .before .before .args .s .now in
     let l = c .before .before .before .loop in
-    (omega arith, right-join s 0 (l .i) (l .i + 61) (l .inv .1) (low-right s (l .i) (c .before .high-in-block .ensures (c .if1 .taken))))
+    (omega arith, right-join s 0 (l .i) (l .i + 61) (l .inv .1) (low-right s (l .i) (c .before .high-in .ensures (c .if1 .taken))))
 
-wrong-in-block-requires : tie.Need-wrong-in-block-requires Inv-loop μ-loop
-wrong-in-block-requires c κs = omega arith
+wrong-in-requires : tie.Need-wrong-in-requires Inv-loop μ-loop
+wrong-in-requires c κs = omega arith
 
 returns : tie.Need-returns Inv-loop μ-loop
 returns c = c .before .before .before .before .before .loop .inv
@@ -50,24 +50,24 @@ loop-again-2 : tie.Need-loop-again-2 Inv-loop μ-loop
 loop-again-2 c =
     let s = c .before .before .before .before .before .before .before .args .s .now in
     let l = c .before .before .before .before .before .loop in
-    (omega arith, right-join s 0 (l .i) (l .i + 64) (l .inv .1) (c .before .wrong-in-block .ensures (omega arith)))
+    (omega arith, right-join s 0 (l .i) (l .i + 64) (l .inv .1) (c .before .wrong-in .ensures (omega arith)))
 
 returns-2 : tie.Need-returns-2 Inv-loop μ-loop
 returns-2 c = c .before .loop .inv
 
-pub blocks-spec : {M : Type 1} → statement M
-blocks-spec =
+pub right-to-spec : {M : Type 1} → statement M
+right-to-spec =
     tie.close
     (tie.spec
     Inv-loop
     μ-loop
     loop-holds
     sub-loop
-    high-in-block-requires
+    high-in-requires
     add-i
     loop-less
     loop-again
-    wrong-in-block-requires
+    wrong-in-requires
     returns
     add-i-2
     loop-less-2

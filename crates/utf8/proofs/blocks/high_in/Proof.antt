@@ -1,4 +1,4 @@
--- `utf8::high_in_block` meets its contract. The loop's invariant: if the number is 0, the bytes passed are ASCII. Assumes nothing.
+-- `utf8::blocks::high_in` meets its contract. The loop's invariant: if the number is 0, the bytes passed are ASCII. Assumes nothing.
 use Prim.Native.Nat.{ℕ, _+_, _-_, _≤_, _<_}
 use mathlib.Core.Path.{_≡_}
 use native.Mathlib.Omega.{arith}
@@ -6,8 +6,8 @@ use lib.ListN.{getD}
 use borrow.Author.Needs.{needs}
 use Rattle.utf8.specs.Following.{Low}
 use Rattle.utf8.proofs.FollowingLaws.{each-more}
-use Rattle.utf8.proofs.high_in_block.Statement.{statement}
-use Rattle.utf8.proofs.high_in_block.Tie as tie
+use Rattle.utf8.proofs.blocks.high_in.Statement.{statement}
+use Rattle.utf8.proofs.blocks.high_in.Tie as tie
 
 abbrev Inv-loop : tie.InvT-loop
 Inv-loop s from all₀ k₀ all k = (k ≤ 64) × (all ≡ 0 → Low s from (from + k))
@@ -45,8 +45,8 @@ loop-again c =
 returns : tie.Need-returns Inv-loop μ-loop
 returns c = λ e m h k. c .before .loop .inv .1 e m h (omega arith)
 
-pub high-in-block-spec : {M : Type 1} → statement M
-high-in-block-spec =
+pub high-in-spec : {M : Type 1} → statement M
+high-in-spec =
     tie.close
     (tie.spec
     Inv-loop

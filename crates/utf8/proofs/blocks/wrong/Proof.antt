@@ -1,8 +1,8 @@
--- `utf8::wrong` meets its contract: a sum by bits is 0 only if each part is. Assumes nothing.
+-- `utf8::blocks::wrong` meets its contract: a sum by bits is 0 only if each part is. Assumes nothing.
 use Rattle.utf8.proofs.FollowingLaws.{follows-by}
 use borrow.Author.Needs.{needs}
-use Rattle.utf8.proofs.wrong.Statement.{statement}
-use Rattle.utf8.proofs.wrong.Tie as tie
+use Rattle.utf8.proofs.blocks.wrong.Statement.{statement}
+use Rattle.utf8.proofs.blocks.wrong.Tie as tie
 
 above-requires : tie.Need-above-requires
 above-requires c κs = search needs

@@ -1,10 +1,10 @@
--- `utf8::pass_blocks` meets its contract: the first three bytes stand right, and then the blocks. Assumes nothing.
+-- `utf8::blocks::pass` meets its contract: the first three bytes stand right, and then the blocks. Assumes nothing.
 use native.Mathlib.Omega.{arith}
 use Rattle.utf8.proofs.FollowingLaws.{begins-by}
 use Rattle.utf8.proofs.ResumeLaws.{from-start}
 use borrow.Author.Needs.{needs}
-use Rattle.utf8.proofs.pass_blocks.Statement.{statement}
-use Rattle.utf8.proofs.pass_blocks.Tie as tie
+use Rattle.utf8.proofs.blocks.pass.Statement.{statement}
+use Rattle.utf8.proofs.blocks.pass.Tie as tie
 
 returns : tie.Need-returns
 returns c = from-start _
@@ -30,19 +30,19 @@ wrong-requires-3 c κs = search needs
 returns-2 : tie.Need-returns-2
 returns-2 c = from-start _
 
-blocks-requires : tie.Need-blocks-requires
-blocks-requires c κs = search needs
+right-to-requires : tie.Need-right-to-requires
+right-to-requires c κs = search needs
 
 start-before-requires : tie.Need-start-before-requires
 start-before-requires c κs =
-    let b = c .blocks2 .ensures in
+    let b = c .right-to .ensures in
     (b .0, begins-by _ _ _ _ _ _ (c .before .before .before .before .wrong .ensures) (c .before .before .before .wrong2 .ensures) (c .before .before .wrong3 .ensures) (omega arith), b .1)
 
 returns-3 : tie.Need-returns-3
 returns-3 c = search needs
 
-pub pass-blocks-spec : {M : Type 1} → statement M
-pass-blocks-spec =
+pub pass-spec : {M : Type 1} → statement M
+pass-spec =
     tie.close
     (tie.spec
     returns
@@ -53,6 +53,6 @@ pass-blocks-spec =
     wrong-requires-2
     wrong-requires-3
     returns-2
-    blocks-requires
+    right-to-requires
     start-before-requires
     returns-3)
