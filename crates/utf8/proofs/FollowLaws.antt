@@ -1,8 +1,8 @@
 -- Laws for the code that holds a place's bytes against the table's ranges. Assumes nothing.
 use Prim.Native.Nat.{ℕ, suc, _+_, _-_, _≤_, _<_}
 use mathlib.Core.Path.{_≡_, refl, ap}
-use mathlib.Core.List.{List, _∷_}
-use mathlib.Core.Option.{Option}
+use mathlib.Core.List.{List, [], _∷_}
+use mathlib.Core.Option.{Option, none, some}
 use mathlib.Core.Bool.{Bool, true, false}
 use native.Mathlib.Omega.{arith}
 use native.Mathlib.Numerals.{add-one}
@@ -12,6 +12,7 @@ use lib.Seq.{drop-cons}
 use borrow.Author.Tests.{lt-leb}
 use Rattle.wat.specs.Utf8.{Range, _‥_, table}
 use Rattle.wat.specs.Utf8Model.{Whole, Wrong, Cut, pick, has, find, follow, start, front}
+use Rattle.wat.proofs.Utf8Laws.{row-at, Outside, no-row}
 use Rattle.utf8.specs.Fronts.{trailing}
 
 -- a byte against a range
@@ -60,6 +61,16 @@ pub trail-end : (k n : ℕ) (t : List ℕ) → n ≡ 0 → follow k (trailing n)
 trail-end k n t e = rw e
 
 -- the first byte's row, and then the bytes after it
-pub front-row : (s : List ℕ) (i : ℕ) (o : Option (List Range)) → i < length s → find table (getD s i 0) ≡ o → front (drop i s) ≡ start o (drop (i + 1) s)
-unfolding front
-front-row s i o h e = rw (add-one i, drop-cons s i 0 h, e)
+
+module _ (s : List ℕ) (i : ℕ) (h : i < length s) where
+  by-row : (o : Option (List Range)) → find table (getD s i 0) ≡ o → front (drop i s) ≡ start o (drop (i + 1) s)
+  unfolding front
+  by-row o e = rw (add-one i, drop-cons s i 0 h, e)
+
+  pub front-row :
+      (k lo hi : ℕ) (rs : List Range) → k < length table → getD table k [] ≡ (lo ‥ hi ∷ rs) → lo ≤ getD s i 0 → getD s i 0 ≤ hi
+      → front (drop i s) ≡ follow 1 rs (drop (i + 1) s)
+  front-row k lo hi rs l e a b = by-row (some rs) (row-at k lo hi (getD s i 0) rs l e a b)
+
+  pub front-none : Outside (getD s i 0) table → front (drop i s) ≡ Wrong 1
+  front-none o = by-row none (no-row table (getD s i 0) o)

@@ -1,9 +1,9 @@
-pub mod FollowLaws
-pub mod ScalarLaws
 pub mod DecodeLaws
 pub mod ScanLaws
-pub mod PutLaws
-pub mod EncodeLaws
 pub mod BoundaryLaws
-pub mod FollowingLaws
-pub mod ResumeLaws
+pub mod PutLaws
+mod ScalarLaws
+mod FollowLaws
+mod FollowingLaws
+mod ResumeLaws
+mod EncodeLaws

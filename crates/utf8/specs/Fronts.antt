@@ -1,12 +1,9 @@
 -- What stands at the front of a text, in the code's own enums and in the model's terms.
 use Prim.Native.Nat.{ℕ}
-use mathlib.Core.List.{List, [], _∷_}
-use mathlib.Core.Option.{Option, none, some}
+use mathlib.Core.List.{List}
 use lib.ListN.{replicate}
 use Rattle.wat.specs.Utf8.{Range, _‥_}
 use Rattle.wat.specs.Utf8Model as model
-use Rattle.utf8.specs.declared.Lead.{Lead}
-use Rattle.utf8.specs.declared.Lead.the-variants.{Never, Alone, Two, Three, Four}
 use Rattle.utf8.specs.declared.Front.{Front}
 use Rattle.utf8.specs.declared.Front.the-variants.{Whole, Wrong, Cut}
 
@@ -18,11 +15,3 @@ frontOf Cut = model.Cut
 -- the ranges of n bytes that end a character
 abbrev pub trailing : ℕ → List Range
 trailing n = replicate n (0x80 ‥ 0xBF)
-
--- the ranges after the first of the table's row
-abbrev pub rowOf : Lead → Option (List Range)
-rowOf Never = none
-rowOf Alone = some []
-rowOf Two = some (0x80 ‥ 0xBF ∷ trailing 0)
-rowOf (Three lo hi) = some (lo ‥ hi ∷ trailing 1)
-rowOf (Four lo hi) = some (lo ‥ hi ∷ trailing 2)

@@ -3,7 +3,6 @@ use Prim.Native.Nat.{ℕ, _+_, _-_, _≤_, _<_}
 use mathlib.Core.Path.{_≡_}
 use native.Mathlib.Omega.{arith}
 use lib.ListN.{getD}
-use borrow.Author.Needs.{needs}
 use Rattle.utf8.specs.Following.{Low}
 use Rattle.utf8.proofs.FollowingLaws.{each-more}
 use Rattle.utf8.proofs.blocks.high_in.Statement.{statement}
@@ -25,7 +24,7 @@ shared-slice-read-above : tie.Need-shared-slice-read-above Inv-loop μ-loop
 shared-slice-read-above c = omega arith
 
 above-requires : tie.Need-above-requires Inv-loop μ-loop
-above-requires c κs = search needs
+above-requires c κs = omega arith
 
 add-k : tie.Need-add-k Inv-loop μ-loop
 add-k c = omega arith

@@ -1,35 +1,35 @@
 -- `utf8::blocks::wrong` meets its contract: a sum by bits is 0 only if each part is. Assumes nothing.
 use Rattle.utf8.proofs.FollowingLaws.{follows-by}
-use borrow.Author.Needs.{needs}
+use native.Mathlib.Omega.{arith}
 use Rattle.utf8.proofs.blocks.wrong.Statement.{statement}
 use Rattle.utf8.proofs.blocks.wrong.Tie as tie
 
 above-requires : tie.Need-above-requires
-above-requires c κs = search needs
+above-requires c κs = omega arith
 
 above-requires-2 : tie.Need-above-requires-2
-above-requires-2 c κs = search needs
+above-requires-2 c κs = omega arith
 
 above-requires-3 : tie.Need-above-requires-3
-above-requires-3 c κs = search needs
+above-requires-3 c κs = omega arith
 
 misplaced-requires : tie.Need-misplaced-requires
-misplaced-requires c κs = search needs
+misplaced-requires c κs = omega arith
 
 least-requires : tie.Need-least-requires
-least-requires c κs = search needs
+least-requires c κs = omega arith
 
 above-requires-4 : tie.Need-above-requires-4
-above-requires-4 c κs = search needs
+above-requires-4 c κs = omega arith
 
 greatest-requires : tie.Need-greatest-requires
-greatest-requires c κs = search needs
+greatest-requires c κs = omega arith
 
 above-requires-5 : tie.Need-above-requires-5
-above-requires-5 c κs = search needs
+above-requires-5 c κs = omega arith
 
 unused-requires : tie.Need-unused-requires
-unused-requires c κs = search needs
+unused-requires c κs = omega arith
 
 returns : tie.Need-returns
 returns c =

@@ -3,7 +3,6 @@ use Prim.Native.Nat.{ℕ, _+_, _-_, _≤_, _<_}
 use mathlib.Core.Path.{_≡_}
 use native.Mathlib.Omega.{arith}
 use lib.ListN.{getD}
-use borrow.Author.Needs.{needs}
 use Rattle.utf8.specs.Following.{Follows, Right}
 use Rattle.utf8.proofs.FollowingLaws.{each-more}
 use Rattle.utf8.proofs.blocks.wrong_in.Statement.{statement}
@@ -43,7 +42,7 @@ shared-slice-read-wrong-4 : tie.Need-shared-slice-read-wrong-4 Inv-loop μ-loop
 shared-slice-read-wrong-4 c = omega arith
 
 wrong-requires : tie.Need-wrong-requires Inv-loop μ-loop
-wrong-requires c κs = search needs
+wrong-requires c κs = omega arith
 
 add-k : tie.Need-add-k Inv-loop μ-loop
 add-k c = omega arith
