@@ -1,15 +1,15 @@
 -- A character's first byte is none from 0x80 to 0xBF, and its later bytes are: so one byte tells whether a character starts at a place of
 -- a well-formed text. Assumes nothing.
 use Prim.Native.Nat.{ℕ, zero, suc, _+_, _-_, _≤_, _<_}
-use mathlib.Core.Path.{_≡_, refl, sym, ap, _∙_}
+use mathlib.Core.Path.{_≡_, refl}
 use mathlib.Core.Bool.{Bool, true, false}
-use mathlib.Core.List.{List, [], _∷_, _++_}
+use mathlib.Core.List.{List, [], _∷_}
 use mathlib.Core.Logic.{⊎-elim}
 use native.Mathlib.Omega.{arith}
 use lib.Dec.{leb}
 use lib.ListN.{length, getD, drop, length-append, drop-of-length-le, List·getD-append}
 use lib.Seq.{drop-cons, drop-append-add, getD-append-add}
-use borrow.Author.Tests.{leb-true, leb-false}
+use borrow.Author.Tests.{leb-true}
 use Rattle.wat.specs.Utf8.{Range, _‥_, table, Fits, done, next, Char, WellFormed, empty, more}
 use Rattle.wat.specs.Utf8Model.{pick}
 use Rattle.wat.proofs.Utf8Laws.{char-full, pick-both, never}

@@ -1,14 +1,14 @@
 -- Laws for the code that decodes the character at a place. Assumes nothing.
-use Prim.Native.Nat.{ℕ, zero, suc, _+_, _-_, _≤_, _<_}
+use Prim.Native.Nat.{ℕ, suc, _+_, _-_, _≤_, _<_}
 use mathlib.Core.Path.{_≡_, refl, sym, ap, _∙_}
-use mathlib.Core.Logic.{_⊎_, inl, inr, ⊎-elim}
+use mathlib.Core.Logic.{⊎-elim}
 use mathlib.Core.List.{List, [], _∷_, _++_}
 use native.Mathlib.Omega.{arith}
-use lib.ListN.{length, getD, take, drop, length-append, length-drop, drop-of-length-le, take-append-drop}
+use lib.ListN.{length, getD, take, drop, length-append, length-drop, drop-of-length-le}
 use lib.Seq.{take-append-seam, drop-cons, drop-drop, length-take-le}
 use Rattle.wat.specs.Utf8.{Range, _‥_, table, Fits, next, Char, WellFormed, empty, more, scalar}
 use Rattle.wat.specs.Utf8Model.{Front, Whole, Wrong, Cut, front}
-use Rattle.wat.specs.StringModel.{char, nothing, peek, peekBy}
+use Rattle.wat.specs.StringModel.{nothing, peek}
 use Rattle.wat.proofs.Utf8Laws.{View, whole, cut, wrong, viewed, char-full, char-front, fits-length}
 use Rattle.wat.proofs.Scalars.{All, all-listed, char-right, scalar-split}
 use Rattle.wat.proofs.Hexnums.{differ}
@@ -30,18 +30,18 @@ pub char-small : (c : List ℕ) → Char c → scalar c < 0x110000
 char-small c ch = ⊎-elim (λ h. omega arith) (λ h. omega arith) (scalar-split (scalar c) (char-right c ch .1))
 
 -- a character at the front
-pub record Front-char (t : List ℕ) (n : ℕ) : Type 0 where
+pub record FrontChar (t : List ℕ) (n : ℕ) : Type 0 where
   pub is : Char (take n t)
   pub some : 1 ≤ n
   pub few : n ≤ 4
   pub fits : n ≤ length t
 
-pub front-char : (t : List ℕ) (n : ℕ) → front t ≡ Whole n → Front-char t n
+pub front-char : (t : List ℕ) (n : ℕ) → front t ≡ Whole n → FrontChar t n
 unfolding front
 front-char [] n h = differ (cc)
 front-char (b ∷ t) n h = go h (viewed b t)
   where
-    go : {f : Front} → f ≡ Whole n → View (b ∷ t) f → Front-char (b ∷ t) n
+    go : {f : Front} → f ≡ Whole n → View (b ∷ t) f → FrontChar (b ∷ t) n
     go h (whole c u e ch x) =
         let l : n ≡ length c = cc in
         record {
@@ -52,6 +52,8 @@ front-char (b ∷ t) n h = go h (viewed b t)
         }
     go h (cut i nc x) = differ (cc)
     go h (wrong j r nc x) = differ (cc)
+
+-- what the front says of `peek`
 
 pub decoded-char : (s : List ℕ) (at v n : ℕ) → at ≤ length s → front (drop at s) ≡ Whole n → v ≡ scalar (take n (drop at s)) → Character s at v n
 unfolding peek

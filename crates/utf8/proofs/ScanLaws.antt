@@ -1,13 +1,13 @@
 -- Laws for the code that checks a text from a place on. Assumes nothing.
 use Prim.Native.Nat.{ℕ, zero, suc, pred, _+_, _≤_, _<_}
-use mathlib.Core.Path.{_≡_, refl, sym, ap, _∙_}
+use mathlib.Core.Path.{_≡_, refl, ap, _∙_}
 use mathlib.Core.List.{List, [], _∷_}
 use native.Mathlib.Omega.{arith}
 use native.Mathlib.Nat.{add-zero}
-use lib.ListN.{length, getD, drop, length-drop, drop-of-length-le}
+use lib.ListN.{length, getD, drop, drop-of-length-le}
 use lib.Seq.{drop-cons, drop-drop}
 use Rattle.wat.specs.Utf8.{Says}
-use Rattle.wat.specs.Utf8Model.{Front, Whole, Wrong, Cut, front, verdict, scan, checked}
+use Rattle.wat.specs.Utf8Model.{Whole, Wrong, Cut, front, verdict, scan, checked}
 use Rattle.wat.specs.declared.Checked.{Checked}
 use Rattle.wat.specs.declared.Checked.the-variants.{Ok, Bad}
 use Rattle.wat.proofs.Utf8Laws.{char-front, checked-says, says-one}

@@ -21,7 +21,7 @@ pub record Placed (n b : ℕ) : Type 0 where
   pub asked : 0 < n → Continues b
   pub unasked : n ≡ 0 → Continues b → ⊥
 
--- b stands after r, q and p, in this order
+-- b may follow r, q and p, which stand before it in this order
 pub record Follows (r q p b : ℕ) : Type 0 where
   pub second : 0xC0 ≤ p → Continues b
   pub third : 0xE0 ≤ q → Continues b
@@ -34,11 +34,11 @@ pub record Follows (r q p b : ℕ) : Type 0 where
 abbrev pub Low : List ℕ → ℕ → ℕ → Type 0
 Low s from to = (m : ℕ) → from ≤ m → m < to → getD s m 0 < 0x80
 
--- each byte from the fourth after one place to the fourth after another stands right
+-- the byte three places after each place from one to another follows the three before it
 abbrev pub Right : List ℕ → ℕ → ℕ → Type 0
 Right s from to = (m : ℕ) → from ≤ m → m < to → Follows (getD s m 0) (getD s (m + 1) 0) (getD s (m + 2) 0) (getD s (m + 3) 0)
 
--- the three bytes at the front of a text stand right
+-- the three bytes at the front of a text follow each other, with nothing before them
 pub record Begins (a b c : ℕ) : Type 0 where
   pub one : Follows 0 0 0 a
   pub two : Follows 0 0 a b

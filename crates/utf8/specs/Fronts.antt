@@ -1,4 +1,4 @@
--- What stands at the front of a text, in the code's own enums and in the model's terms.
+-- What stands at the front of a text, in the code's own enum and in the model's terms.
 use Prim.Native.Nat.{ℕ}
 use mathlib.Core.List.{List}
 use lib.ListN.{replicate}

@@ -1,5 +1,5 @@
 -- `utf8::blocks::wrong_in` meets its contract. The loop's invariant: if the number is 0, the bytes passed stand right. Assumes nothing.
-use Prim.Native.Nat.{ℕ, _+_, _-_, _≤_, _<_}
+use Prim.Native.Nat.{_+_, _-_, _≤_}
 use mathlib.Core.Path.{_≡_}
 use native.Mathlib.Omega.{arith}
 use lib.ListN.{getD}
