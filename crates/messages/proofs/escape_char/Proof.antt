@@ -3,12 +3,12 @@ use mathlib.Core.Path.{_≡_, refl}
 use mathlib.Core.Logic.{⊎-elim}
 use mathlib.Core.Bool.{false}
 use native.Mathlib.Omega.{arith}
+use lib.ListN.{length-set}
 use Rattle.wat.specs.{Bytes.byte, Bytes.between}
 use Rattle.wat.specs.Messages.{named}
 use Rattle.wat.proofs.Scalars.{between-under, between-over}
 use Rattle.messages.proofs.BufferLaws.{put-length, put-one, put-put}
 use Rattle.messages.proofs.CharLaws.{hex-fits, put-named, shown-itself, shown-number}
-use borrow.Author.Needs.{needs}
 use Rattle.messages.proofs.escape_char.Statement.{statement}
 use Rattle.messages.proofs.escape_char.Tie as tie
 use Rattle.messages.proofs.escape_char.Reads as reads
@@ -18,71 +18,71 @@ use Rattle.messages.proofs.lower_hex.Reads as lower-hex-reads
 
 -- src/lib.rt:56:33
 slice-aggregate-append : tie.Need-slice-aggregate-append
-slice-aggregate-append c = search needs
+slice-aggregate-append c = refl
 
 -- src/lib.rt:56:17
 append-requires : tie.Need-append-requires
-append-requires c κs = search needs
+append-requires c κs = omega arith
 
 -- src/lib.rt:57:33
 slice-aggregate-append-2 : tie.Need-slice-aggregate-append-2
-slice-aggregate-append-2 c = search needs
+slice-aggregate-append-2 c = refl
 
 -- src/lib.rt:57:17
 append-requires-2 : tie.Need-append-requires-2
-append-requires-2 c κs = search needs
+append-requires-2 c κs = omega arith
 
 -- src/lib.rt:58:33
 slice-aggregate-append-3 : tie.Need-slice-aggregate-append-3
-slice-aggregate-append-3 c = search needs
+slice-aggregate-append-3 c = refl
 
 -- src/lib.rt:58:17
 append-requires-3 : tie.Need-append-requires-3
-append-requires-3 c κs = search needs
+append-requires-3 c κs = omega arith
 
 -- src/lib.rt:59:33
 slice-aggregate-append-4 : tie.Need-slice-aggregate-append-4
-slice-aggregate-append-4 c = search needs
+slice-aggregate-append-4 c = refl
 
 -- src/lib.rt:59:17
 append-requires-4 : tie.Need-append-requires-4
-append-requires-4 c κs = search needs
+append-requires-4 c κs = omega arith
 
 -- src/lib.rt:60:33
 slice-aggregate-append-5 : tie.Need-slice-aggregate-append-5
-slice-aggregate-append-5 c = search needs
+slice-aggregate-append-5 c = refl
 
 -- src/lib.rt:60:17
 append-requires-5 : tie.Need-append-requires-5
-append-requires-5 c κs = search needs
+append-requires-5 c κs = omega arith
 
 -- src/lib.rt:62:23
 cast-out : tie.Need-cast-out
-cast-out c = search needs
+cast-out c = omega arith
 
 -- src/lib.rt:62:13
 slice-write-out : tie.Need-slice-write-out
-slice-write-out c = search needs
+slice-write-out c = omega arith
 
 -- src/lib.rt:63:13
 add-result : tie.Need-add-result
-add-result c = search needs
+add-result c = omega arith
 
 -- src/lib.rt:66:40
 slice-aggregate-append-6 : tie.Need-slice-aggregate-append-6
-slice-aggregate-append-6 c = search needs
+slice-aggregate-append-6 c = refl
 
 -- src/lib.rt:66:17
 append-requires-6 : tie.Need-append-requires-6
-append-requires-6 c κs = search needs
+append-requires-6 c κs = omega arith
 
 -- src/lib.rt:67:17
 lower-hex-requires : tie.Need-lower-hex-requires
-lower-hex-requires c κs = search needs
+lower-hex-requires c κs = omega arith
 
 -- src/lib.rt:68:30
 slice-aggregate-append-7 : tie.Need-slice-aggregate-append-7
-slice-aggregate-append-7 c = search needs
+slice-aggregate-append-7 c = refl
 
 -- src/lib.rt:68:13
 append-requires-7 : tie.Need-append-requires-7
@@ -92,7 +92,7 @@ append-requires-7 c κs =
 
 -- src/lib.rt:51:1
 same-length : tie.Need-same-length
-same-length c = search needs
+same-length c = put-length (c .before .before .append .ensures)
 
 -- src/lib.rt:51:1
 returns : tie.Need-returns
@@ -101,7 +101,7 @@ returns c = put-named 0x09 (byte "t") (c .before .before .before .before .before
 
 -- src/lib.rt:51:1
 same-length-2 : tie.Need-same-length-2
-same-length-2 c = search needs
+same-length-2 c = put-length (c .before .before .append2 .ensures)
 
 -- src/lib.rt:51:1
 returns-2 : tie.Need-returns-2
@@ -110,7 +110,7 @@ returns-2 c = put-named 0x0D (byte "r") (c .before .before .before .before .befo
 
 -- src/lib.rt:51:1
 same-length-3 : tie.Need-same-length-3
-same-length-3 c = search needs
+same-length-3 c = put-length (c .before .before .append3 .ensures)
 
 -- src/lib.rt:51:1
 returns-3 : tie.Need-returns-3
@@ -119,7 +119,7 @@ returns-3 c = put-named 0x0A (byte "n") (c .before .before .before .before .befo
 
 -- src/lib.rt:51:1
 same-length-4 : tie.Need-same-length-4
-same-length-4 c = search needs
+same-length-4 c = put-length (c .before .before .append4 .ensures)
 
 -- src/lib.rt:51:1
 returns-4 : tie.Need-returns-4
@@ -128,7 +128,7 @@ returns-4 c = put-named 0x5C (byte "\\") (c .before .before .before .before .bef
 
 -- src/lib.rt:51:1
 same-length-5 : tie.Need-same-length-5
-same-length-5 c = search needs
+same-length-5 c = put-length (c .before .before .append5 .ensures)
 
 -- src/lib.rt:51:1
 returns-5 : tie.Need-returns-5
@@ -137,7 +137,7 @@ returns-5 c = put-named 0x27 (byte "'") (c .before .before .before .before .befo
 
 -- src/lib.rt:51:1
 same-length-6 : tie.Need-same-length-6
-same-length-6 c = search needs
+same-length-6 c = let a = c .before .before .before .before .args in length-set (a .out .now) (a .at) (a .c)
 
 -- src/lib.rt:51:1
 returns-6 : tie.Need-returns-6
@@ -147,7 +147,7 @@ returns-6 c =
 
 -- src/lib.rt:51:1
 same-length-7 : tie.Need-same-length-7
-same-length-7 c = search needs
+same-length-7 c = put-length (put-put (c .before .before .before .before .before .before .before .before .before .before .before .append6 .ensures) (put-put (c .before .before .before .before .before .before .before .lower-hex .ensures) (c .before .before .append7 .ensures)))
 
 -- src/lib.rt:51:1
 returns-7 : tie.Need-returns-7

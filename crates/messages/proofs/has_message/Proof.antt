@@ -2,7 +2,6 @@
 use mathlib.Core.Path.{sym, ap, _∙_}
 use Rattle.messages.specs.MessageModel.{tellable}
 use Rattle.messages.proofs.MessageLaws.{and-on, and-off}
-use borrow.Author.Needs.{needs}
 use Rattle.messages.proofs.has_message.Statement.{statement}
 use Rattle.messages.proofs.has_message.Tie as tie
 use Rattle.messages.proofs.has_message.Reads as reads
@@ -12,87 +11,87 @@ use Rattle.messages.proofs.is_scalar.Reads as is-scalar-reads
 
 -- src/lib.rt:141:30
 enum-known-e : tie.Need-enum-known-e
-enum-known-e c = search needs
+enum-known-e c = c .match .keys1
 
 -- src/lib.rt:141:36
 is-scalar-requires : tie.Need-is-scalar-requires
-is-scalar-requires c κs = search needs
+is-scalar-requires c κs = tt
 
 -- src/lib.rt:142:40
 enum-known-e-2 : tie.Need-enum-known-e-2
-enum-known-e-2 c = search needs
+enum-known-e-2 c = c .match .keys2
 
 -- src/lib.rt:142:46
 is-scalar-requires-2 : tie.Need-is-scalar-requires-2
-is-scalar-requires-2 c κs = search needs
+is-scalar-requires-2 c κs = tt
 
 -- src/lib.rt:143:39
 enum-known-e-3 : tie.Need-enum-known-e-3
-enum-known-e-3 c = search needs
+enum-known-e-3 c = c .match .keys3
 
 -- src/lib.rt:143:45
 is-scalar-requires-3 : tie.Need-is-scalar-requires-3
-is-scalar-requires-3 c κs = search needs
+is-scalar-requires-3 c κs = tt
 
 -- src/lib.rt:144:35
 enum-known-e-4 : tie.Need-enum-known-e-4
-enum-known-e-4 c = search needs
+enum-known-e-4 c = c .match .keys4
 
 -- src/lib.rt:144:41
 is-scalar-requires-4 : tie.Need-is-scalar-requires-4
-is-scalar-requires-4 c κs = search needs
+is-scalar-requires-4 c κs = tt
 
 -- src/lib.rt:145:30
 enum-known-e-5 : tie.Need-enum-known-e-5
-enum-known-e-5 c = search needs
+enum-known-e-5 c = c .match .keys5
 
 -- src/lib.rt:145:49
 is-scalar-requires-5 : tie.Need-is-scalar-requires-5
-is-scalar-requires-5 c κs = search needs
+is-scalar-requires-5 c κs = tt
 
 -- src/lib.rt:145:70
 is-scalar-requires-6 : tie.Need-is-scalar-requires-6
-is-scalar-requires-6 c κs = search needs
+is-scalar-requires-6 c κs = tt
 
 -- src/lib.rt:146:36
 enum-known-e-6 : tie.Need-enum-known-e-6
-enum-known-e-6 c = search needs
+enum-known-e-6 c = c .match .keys6
 
 -- src/lib.rt:146:42
 is-confusing-unicode-requires : tie.Need-is-confusing-unicode-requires
-is-confusing-unicode-requires c κs = search needs
+is-confusing-unicode-requires c κs = tt
 
 -- src/lib.rt:147:43
 enum-told : tie.Need-enum-told
-enum-told c = search needs
+enum-told c = c .match .keys7
 
 -- src/lib.rt:148:36
 enum-told-2 : tie.Need-enum-told-2
-enum-told-2 c = search needs
+enum-told-2 c = c .match .keys8
 
 -- src/lib.rt:149:35
 enum-told-3 : tie.Need-enum-told-3
-enum-told-3 c = search needs
+enum-told-3 c = c .match .keys9
 
 -- src/lib.rt:150:45
 enum-told-4 : tie.Need-enum-told-4
-enum-told-4 c = search needs
+enum-told-4 c = c .match .keys10
 
 -- src/lib.rt:151:37
 enum-told-5 : tie.Need-enum-told-5
-enum-told-5 c = search needs
+enum-told-5 c = c .match .keys11
 
 -- src/lib.rt:155:14
 enum-told-6 : tie.Need-enum-told-6
-enum-told-6 c = search needs
+enum-told-6 c = c .match .keys12
 
 -- src/lib.rt:156:30
 enum-told-7 : tie.Need-enum-told-7
-enum-told-7 c = search needs
+enum-told-7 c = c .match .keys13
 
 -- src/lib.rt:157:38
 enum-told-8 : tie.Need-enum-told-8
-enum-told-8 c = search needs
+enum-told-8 c = c .match .keys14
 
 -- src/lib.rt:137:1
 returns : tie.Need-returns

@@ -1,12 +1,12 @@
 -- `messages::message` meets its contract. Assumes nothing.
-use mathlib.Core.Path.{sym, _∙_}
+use mathlib.Core.Path.{refl, sym, _∙_}
 use mathlib.Core.List.{[], _∷_}
 use native.Mathlib.Omega.{arith}
 use types.Run.{miss}
 use borrow.Author.Tests.{not-true, not-false}
 use Rattle.wat.specs.Messages.{Tells}
+use Rattle.messages.proofs.BufferLaws.{put-length}
 use Rattle.messages.proofs.MessageLaws.{untold, formatted-length, cut, delivered}
-use borrow.Author.Needs.{needs}
 use Rattle.messages.proofs.message.Statement.{statement}
 use Rattle.messages.proofs.message.Tie as tie
 use Rattle.messages.proofs.message.Reads as reads
@@ -17,7 +17,7 @@ use Rattle.messages.proofs.has_message.Reads as has-message-reads
 
 -- src/lib.rt:165:26
 enum-known-r : tie.Need-enum-known-r
-enum-known-r c = search needs
+enum-known-r c = c .match .keys1
 
 -- src/lib.rt:166:9
 returns : tie.Need-returns
@@ -25,7 +25,7 @@ returns c = Tells.none (λ e m q d. miss (0 ∷ 1 ∷ 2 ∷ 3 ∷ 5 ∷ 6 ∷ 7 
 
 -- src/lib.rt:168:9
 has-message-requires : tie.Need-has-message-requires
-has-message-requires c κs = search needs
+has-message-requires c κs = tt
 
 -- src/lib.rt:169:9
 returns-2 : tie.Need-returns-2
@@ -33,11 +33,11 @@ returns-2 c = untold (c .before .before .before .r .given .1) (sym (c .before .h
 
 -- src/lib.rt:172:20
 slice-aggregate-fmt : tie.Need-slice-aggregate-fmt
-slice-aggregate-fmt c = search needs
+slice-aggregate-fmt c = refl
 
 -- src/lib.rt:172:9
 fmt-requires : tie.Need-fmt-requires
-fmt-requires c κs = search needs
+fmt-requires c κs = refl
 
 -- src/lib.rt:174:9
 returns-3 : tie.Need-returns-3
@@ -45,7 +45,7 @@ returns-3 c = cut (c .before .before .before .before .before .before .before .r 
 
 -- src/lib.rt:176:23
 array-share-prefix-text : tie.Need-array-share-prefix-text
-array-share-prefix-text c = search needs
+array-share-prefix-text c = omega (arith, c .before .before .before .fmt .ensures .fits)
 
 -- src/lib.rt:176:23
 slice-aggregate-append : tie.Need-slice-aggregate-append
@@ -57,7 +57,7 @@ append-requires c κs = omega (arith, formatted-length (c .before .before .befor
 
 -- src/lib.rt:162:1
 same-length : tie.Need-same-length
-same-length c = search needs
+same-length c = put-length (c .before .before .append .ensures)
 
 -- src/lib.rt:162:1
 returns-4 : tie.Need-returns-4

@@ -1,8 +1,8 @@
 -- `messages::quoted` meets its contract: three texts one behind the other. Assumes nothing.
+use mathlib.Core.Path.{refl}
 use native.Mathlib.Omega.{arith}
 use Rattle.messages.proofs.BufferLaws.{put-length, put-put}
 use Rattle.messages.proofs.CharLaws.{shown-fits}
-use borrow.Author.Needs.{needs}
 use Rattle.messages.proofs.quoted.Statement.{statement}
 use Rattle.messages.proofs.quoted.Tie as tie
 use Rattle.messages.proofs.quoted.Reads as reads
@@ -12,15 +12,15 @@ use Rattle.messages.proofs.escape_char.Reads as escape-char-reads
 
 -- src/lib.rt:78:9
 append-requires : tie.Need-append-requires
-append-requires c κs = search needs
+append-requires c κs = omega arith
 
 -- src/lib.rt:79:9
 escape-char-requires : tie.Need-escape-char-requires
-escape-char-requires c κs = search needs
+escape-char-requires c κs = omega arith
 
 -- src/lib.rt:80:24
 slice-aggregate-append : tie.Need-slice-aggregate-append
-slice-aggregate-append c = search needs
+slice-aggregate-append c = refl
 
 -- src/lib.rt:80:5
 append-requires-2 : tie.Need-append-requires-2
@@ -30,7 +30,7 @@ append-requires-2 c κs =
 
 -- src/lib.rt:74:1
 same-length : tie.Need-same-length
-same-length c = search needs
+same-length c = put-length (put-put (c .before .before .before .before .before .before .before .before .before .before .before .append .ensures) (put-put (c .before .before .before .before .before .before .before .escape-char .ensures) (c .before .before .append2 .ensures)))
 
 -- src/lib.rt:74:1
 returns : tie.Need-returns
