@@ -1,12 +1,12 @@
 -- Texts written one behind the other into a buffer. Assumes nothing.
-use Prim.Native.Nat.{ℕ, suc, _+_, _≤_, _<_}
+use Prim.Native.Nat.{ℕ, _+_, _≤_, _<_}
 use mathlib.Core.Path.{_≡_, refl, sym, ap, _∙_}
 use mathlib.Core.List.{List, [], _∷_, _++_, append-assoc}
 use native.Mathlib.Omega.{arith}
 use native.Mathlib.Numerals.{add-one}
 use lib.ListN.{length, take, drop, set, length-append, length-drop}
 use lib.Seq.{length-take-le, take-length, take-at, drop-append-add, drop-drop, set-split, paste}
-use Rattle.messages.specs.MessageModel.{Put}
+use Rattle.messages.specs.Writing.{Put}
 
 -- a buffer keeps its length
 pub put-length : {old new v : List ℕ} {at end : ℕ} → Put old new at v end → length new ≡ length old

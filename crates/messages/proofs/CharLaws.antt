@@ -1,9 +1,8 @@
 -- Hexadecimal digits, and a character as a message shows it: the functions that compute say what `Hexed` and `Shown` ask. Assumes nothing.
 use Prim.Native.Nat.{ℕ, zero, suc, _+_, _*_, _/_, _%_, _^_, _≤_, _<_}
-use mathlib.Core.Path.{_≡_, refl, sym, ap, _∙_}
-use mathlib.Core.Logic.{⊎-elim}
+use mathlib.Core.Path.{_≡_, refl, sym, _∙_}
 use mathlib.Core.Bool.{Bool, true, false}
-use mathlib.Core.List.{List, [], _∷_, _++_, List·Memᴰ, List·Memᴰ·head, List·Memᴰ·tail, List·Memᴰ·not-nil, List·Memᴰ·cases-cons}
+use mathlib.Core.List.{List, [], _∷_, _++_, List·Memᴰ, List·Memᴰ·head, List·Memᴰ·tail}
 use mathlib.Core.Option.{Option, none, some}
 use native.Mathlib.Omega.{arith}
 use native.Mathlib.Nat.{pow-suc}
@@ -18,8 +17,9 @@ use Rattle.wat.proofs.Hexnums.{differ}
 use Rattle.wat.proofs.Scalars.{between-true, between-in, scalar-low}
 use Rattle.wat.proofs.Elements.{AllPairs, pairs-listed}
 use Rattle.wat.proofs.OneMessage.{hexed-one, shown-one}
-use Rattle.messages.specs.MessageModel.{hexBy, hex, shown, Put}
-use Rattle.messages.proofs.BufferLaws.{put-one, put-put, put-length}
+use Rattle.messages.specs.MessageModel.{hexBy, hex, shown}
+use Rattle.messages.specs.Writing.{Put}
+use Rattle.messages.proofs.BufferLaws.{put-one, put-put}
 
 -- ---- digits
 

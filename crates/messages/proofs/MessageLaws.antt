@@ -1,23 +1,19 @@
--- Which errors have a message, how long it is, and what the message call answers. Assumes nothing.
-use Prim.Native.Nat.{ℕ, suc, _+_, _^_, _≤_, _<_}
-use mathlib.Core.Path.{_≡_, refl, sym, ap, _∙_}
+-- Which errors have a message, and how long it is. Assumes nothing.
+use Prim.Native.Nat.{ℕ, _+_, _^_, _≤_, _<_}
+use mathlib.Core.Path.{_≡_, refl, ap}
 use mathlib.Core.Logic.{⊎-elim}
 use mathlib.Core.Bool.{Bool, true, false, _&&_}
 use mathlib.Core.List.{List, _++_}
 use native.Mathlib.Omega.{arith}
-use lib.ListN.{length, take, drop, length-append}
-use lib.Seq.{length-take-le}
-use Rattle.wat.specs.declared.{LexError.LexError, Refusal.Refusal, Message.Message}
+use lib.ListN.{length, length-append}
+use Rattle.wat.specs.declared.LexError.{LexError}
 use Rattle.wat.specs.declared.LexError.the-variants.{DanglingBlockComment, Unexpected, InvalidStringElement, InvalidStringEscape, InvalidHexDigit, Expected, UnexpectedEof, NumberTooBig, InvalidUnicodeValue, LoneUnderscore, ConfusingUnicode, InvalidUtf8Id, EmptyId, EmptyAnnotation}
-use Rattle.wat.specs.declared.Refusal.the-variants.{Lexical, BufferTooShort, NoMessage}
-use Rattle.wat.specs.declared.Message.the-variants.{Refused, Written}
-use Rattle.wat.specs.{Bytes.bytes, Bytes.between, Chars.isScalar, Chars.confusing}
-use Rattle.wat.specs.Messages.{Shown, Displays, Tells}
+use Rattle.wat.specs.{Bytes.bytes, Bytes.between, Bytes.has, Chars.isScalar, Chars.confusing}
+use Rattle.wat.specs.Messages.{named, Shown, Displays}
 use Rattle.wat.proofs.Shapes.{both}
 use Rattle.wat.proofs.Scalars.{scalar-low, scalar-split}
 use Rattle.wat.proofs.Elements.{has-every}
-use Rattle.messages.specs.MessageModel.{hex, shown, tellable, Put, Formatted}
-use Rattle.messages.proofs.BufferLaws.{put-length, put-front}
+use Rattle.messages.specs.MessageModel.{hexBy, hex, shown, tellable}
 use Rattle.messages.proofs.CharLaws.{hexed, hexed-fits, shown-right, shown-scalar, shown-is, shown-fits}
 
 -- ---- which errors have a message
@@ -29,13 +25,6 @@ and-left false b e = e
 and-right : (a b : Bool) → a && b ≡ true → b ≡ true
 and-right true b e = e
 and-right false b e = absurd (both e refl)
-
--- `&&`, as the code decides it
-pub and-on : {a b r s : Bool} → r ≡ a → r ≡ true → s ≡ b → s ≡ a && b
-and-on p t q = rw (← p, t) q
-
-pub and-off : {a r : Bool} (b : Bool) → r ≡ a → r ≡ false → r ≡ a && b
-and-off b p t = rw (← p, t)
 
 confusing-bounds : (c : ℕ) → confusing c ≡ true → (0x202A ≤ c) × (c ≤ 0x206C)
 unfolding confusing
@@ -98,47 +87,32 @@ shown-length {c} x = omega (arith, ap length (shown-is x), shown-fits c 5 (scala
 abbrev pub Wide : LexError → Type 0
 Wide e = (n : ℕ) → e ≡ InvalidUnicodeValue n → n < 2 ^ 32
 
-pub quoted-length : (t s : List ℕ) → length (t ++ (s ++ bytes "'")) ≡ length t + length s + 1
+quoted-length : (t s : List ℕ) → length (t ++ (s ++ bytes "'")) ≡ length t + length s + 1
 quoted-length t s = omega (arith, length-append t (s ++ bytes "'"), length-append s (bytes "'"))
 
-pub message-fits : {e : LexError} {m : List ℕ} → Wide e → Displays e m → length m ≤ 51
-message-fits w Displays.dangling = omega arith
-message-fits w (Displays.unexpected {s = s} x) = omega (arith, quoted-length (bytes "unexpected character '") s, shown-length x)
-message-fits w (Displays.element {s = s} x) = omega (arith, quoted-length (bytes "invalid character in string '") s, shown-length x)
-message-fits w (Displays.escape {s = s} x) = omega (arith, quoted-length (bytes "invalid string escape '") s, shown-length x)
-message-fits w (Displays.digit {s = s} x) = omega (arith, quoted-length (bytes "invalid hex digit '") s, shown-length x)
-message-fits w (Displays.expected {s = s} {t = t} x y) =
+pub longest : {e : LexError} {m : List ℕ} → Wide e → Displays e m → length m ≤ 51
+longest w Displays.dangling = omega arith
+longest w (Displays.unexpected {s = s} x) = omega (arith, quoted-length (bytes "unexpected character '") s, shown-length x)
+longest w (Displays.element {s = s} x) = omega (arith, quoted-length (bytes "invalid character in string '") s, shown-length x)
+longest w (Displays.escape {s = s} x) = omega (arith, quoted-length (bytes "invalid string escape '") s, shown-length x)
+longest w (Displays.digit {s = s} x) = omega (arith, quoted-length (bytes "invalid hex digit '") s, shown-length x)
+longest w (Displays.expected {s = s} {t = t} x y) =
     omega (arith, length-append s (bytes "' but found '" ++ (t ++ bytes "'")), quoted-length (bytes "' but found '") t, shown-length x, shown-length y)
-message-fits w Displays.end = omega arith
-message-fits w Displays.big = omega arith
-message-fits w (Displays.value {n = n} x) = omega (arith, hexed-fits x 7 (w n refl))
-message-fits w Displays.underscore = omega arith
-message-fits w (Displays.hidden {c = c} {s = s} h x) =
+longest w Displays.end = omega arith
+longest w Displays.big = omega arith
+longest w (Displays.value {n = n} x) = omega (arith, hexed-fits x 7 (w n refl))
+longest w Displays.underscore = omega arith
+longest w (Displays.hidden {c = c} {s = s} h x) =
     omega (arith, quoted-length (bytes "likely-confusing unicode character found '") s, ap length (shown-is x), shown-fits c 3 (omega (arith, confusing-bounds c h)))
-message-fits w Displays.id = omega arith
-message-fits w Displays.empty-id = omega arith
-message-fits w Displays.empty-annotation = omega arith
+longest w Displays.id = omega arith
+longest w Displays.empty-id = omega arith
+longest w Displays.empty-annotation = omega arith
 
--- ---- the code's answers
+-- one has as many
+pub longest-told : (m : List ℕ) × Displays (ConfusingUnicode 0x202A) m × (length m ≡ 51)
+unfolding confusing has isScalar shown named between hex hexBy
+longest-told = (_, Displays.hidden refl (shown-right 0x202A refl), refl)
 
-pub formatted : {old new v : List ℕ} {n : ℕ} {e f : LexError} → e ≡ f → length old ≡ 64 → (tellable f ≡ true → Displays f v) → Put old new 0 v n → Formatted e new n
-formatted q l d p = rw q (record { room = put-length p ∙ l; fits = omega (arith, p .fits); says = λ t. rw (put-front p) (d t) })
-
-pub untold : {r : Refusal} {e : LexError} {buffer : List ℕ} → r ≡ Lexical e → tellable e ≡ false → Tells r buffer (Refused NoMessage) buffer
-untold {e = e} q t = Tells.none (λ e′ m q′ d. let z : e′ ≡ e = cc in both (rw z at (has-message d)) t)
-
--- the message's own length
-pub formatted-length : {e : LexError} {text : List ℕ} {n : ℕ} → Formatted e text n → n ≡ length (take n text)
-formatted-length {text = text} {n = n} f = sym (length-take-le n text (omega (arith, f .room, f .fits)))
-
-module _ {r : Refusal} {e : LexError} {buffer text : List ℕ} {n : ℕ} (q : r ≡ Lexical e) (t : tellable e ≡ true) (f : Formatted e text n) where
-  pub cut : length buffer < n → Tells r buffer (Refused BufferTooShort) buffer
-  cut h = Tells.too-short q (f .says t) (omega (arith, formatted-length f))
-
-  pub delivered : {new : List ℕ} {end : ℕ} → n ≤ length buffer → Put buffer new 0 (take n text) end → Tells r buffer (Written n) new
-  delivered {new} {end} h p =
-      let m = take n text in
-      let k : end ≡ length m = omega (arith, p .ends) in
-      let z : new ≡ m ++ drop (length m) buffer = p .bytes ∙ ap (λ i. m ++ drop i buffer) k in
-      let y : Tells r buffer (Written (length m)) (m ++ drop (length m) buffer) = Tells.told q (f .says t) (omega (arith, formatted-length f)) in
-      rw (z, ap Written (formatted-length f)) y
+-- 64 bytes hold every message
+pub message-fits : {e : LexError} {m : List ℕ} → Wide e → Displays e m → length m ≤ 64
+message-fits w d = let l = longest w d in omega arith

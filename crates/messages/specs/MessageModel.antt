@@ -1,16 +1,14 @@
 -- Parts of messages by functions that compute. `proofs/MessageLaws` shows that they say what `Messages` of wat asks.
-use Prim.Native.Nat.{ℕ, zero, suc, _+_, _/_, _%_, _≤_}
-use mathlib.Core.Path.{_≡_}
+use Prim.Native.Nat.{ℕ, zero, suc, _/_, _%_}
 use mathlib.Core.Bool.{Bool, true, false, _&&_}
 use mathlib.Core.List.{List, [], _∷_, _++_}
 use mathlib.Core.Option.{none, some}
 use lib.Dec.{ltb}
-use lib.ListN.{length, take, drop}
 use Rattle.wat.specs.declared.LexError.{LexError}
 use Rattle.wat.specs.declared.LexError.the-variants.{DanglingBlockComment, Unexpected, InvalidStringElement, InvalidStringEscape, InvalidHexDigit, Expected, UnexpectedEof, NumberTooBig, InvalidUnicodeValue, LoneUnderscore, ConfusingUnicode, InvalidUtf8Id, EmptyId, EmptyAnnotation}
 use Rattle.wat.specs.{Bytes.bytes, Bytes.byte, Bytes.between, Chars.isScalar, Chars.confusing}
 use Rattle.wat.specs.StringModel.{letterOf}
-use Rattle.wat.specs.Messages.{figure, named, Displays}
+use Rattle.wat.specs.Messages.{figure, named}
 
 -- the digits of a number, in at most so many divisions
 unfoldable pub hexBy : ℕ → ℕ → List ℕ
@@ -44,15 +42,3 @@ tellable (ConfusingUnicode c) = confusing c
 tellable (InvalidUtf8Id v e) = true
 tellable EmptyId = true
 tellable EmptyAnnotation = true
-
--- v is written over old from `at` to `end`, and all else is as it was
-pub record Put (old new : List ℕ) (at : ℕ) (v : List ℕ) (end : ℕ) : Type 0 where
-  pub ends : end ≡ at + length v
-  pub fits : end ≤ length old
-  pub bytes : new ≡ take at old ++ (v ++ drop end old)
-
--- the first n bytes are the message, where there is one
-pub record Formatted (e : LexError) (new : List ℕ) (n : ℕ) : Type 0 where
-  pub room : length new ≡ 64
-  pub fits : n ≤ 64
-  pub says : tellable e ≡ true → Displays e (take n new)

@@ -1,6 +1,6 @@
 -- The model decides `Moves`, and moves compose. Assumes nothing.
-use Prim.Native.Nat.{ℕ, suc, _+_, _≤_, _<_}
-use mathlib.Core.Path.{_≡_, refl, sym, ap, _∙_}
+use Prim.Native.Nat.{ℕ, suc, _+_, _≤_}
+use mathlib.Core.Path.{_≡_, refl, ap, _∙_}
 use mathlib.Core.Bool.{Bool, true, false}
 use mathlib.Core.List.{List, [], _∷_, _++_}
 use mathlib.Core.Option.{Option, none, some}
@@ -14,11 +14,7 @@ use Rattle.wat.specs.Places.{lineFeed, lineFeeds, Column, Leads, Moves}
 use Rattle.wat.proofs.Hexnums.{differ}
 use Rattle.wat.proofs.Shapes.{both}
 use Rattle.wat.proofs.OnePlace.{moves-one}
-use Rattle.place.specs.PlaceModel.{step, after, answer, moved}
-
--- the last number that a counter holds
-abbrev pub last : ℕ
-last = 4_294_967_295
+use Rattle.place.specs.PlaceModel.{last, step, after, answer, moved}
 
 -- a place that a counter holds
 abbrev pub Held : Place → Type 0
@@ -31,7 +27,7 @@ on-line {c} e (Column.goes-on {w = w} r) = let z : c + 1 + length w ≡ c + suc 
 on-line {x = x} e (Column.restarts v r) = Column.restarts (x ∷ v) r
 
 new-line : {c x n : ℕ} {w : List ℕ} → x ≡ 0x0A → Column 1 w n → Column c (x ∷ w) n
-new-line e (Column.goes-on {w = w} r) = rw e (Column.restarts [] r)
+new-line e (Column.goes-on r) = rw e (Column.restarts [] r)
 new-line {x = x} e (Column.restarts v r) = Column.restarts (x ∷ v) r
 
 off-line : {c x n : ℕ} {s w : List ℕ} → lineFeed x ≡ false → s ≡ x ∷ w → Column c s n → Column (c + 1) w n

@@ -11,8 +11,8 @@ use lib.Seq.{drop-cons}
 use borrow.Author.Tests.{lt-ltb, le-ltb, eq-eqb, ne-eqb}
 use Rattle.wat.specs.declared.Place.{Place}
 use Rattle.wat.specs.Places.{Moves}
-use Rattle.place.specs.PlaceModel.{step, after, moved}
-use Rattle.place.proofs.MoveLaws.{last, Held, decides}
+use Rattle.place.specs.PlaceModel.{last, step, after, moved}
+use Rattle.place.proofs.MoveLaws.{Held, decides}
 
 -- the first i bytes lead from p to line and column
 pub record Walked (p : Place) (w : List ℕ) (line column i : ℕ) : Type 0 where

@@ -7,12 +7,16 @@ use lib.Dec.{ltb}
 use Rattle.wat.specs.declared.{Place.Place, Moved.Moved}
 use Rattle.wat.specs.Places.{lineFeed}
 
+-- the last number that a counter holds
+abbrev pub last : ℕ
+last = 4_294_967_295
+
 -- after one byte; none where the counter does not hold it
 unfoldable pub step : Place → ℕ → Option Place
 step p x =
     elim (lineFeed x) [
-      | true ↦ elim (ltb (p .line) 4_294_967_295) [ true ↦ some (record { line = p .line + 1; column = 1 }) | false ↦ none ]
-      | false ↦ elim (ltb (p .column) 4_294_967_295) [ true ↦ some (record { line = p .line; column = p .column + 1 }) | false ↦ none ]
+      | true ↦ elim (ltb (p .line) last) [ true ↦ some (record { line = p .line + 1; column = 1 }) | false ↦ none ]
+      | false ↦ elim (ltb (p .column) last) [ true ↦ some (record { line = p .line; column = p .column + 1 }) | false ↦ none ]
     ]
 
 -- after all of them, one by one

@@ -24,7 +24,6 @@ abbrev lower-hex-below : ℕ → In 1 lower-hex-kinds.ps
 lower-hex-below t =
     and 1 lower-hex-kinds.ps (falls 1 lower-hex-kinds.ps _<_ μ-lower-hex t) lower-hex.Pre
 
--- src/lib.rt:43:19
 lower-hex-hex-digit-requires : (t : ℕ) → lower-hex-lts.Need-hex-digit-requires (
   hex-digit-reads.Asked,
   hex-digit-reads.Learnt,
@@ -33,7 +32,6 @@ lower-hex-hex-digit-requires : (t : ℕ) → lower-hex-lts.Need-hex-digit-requir
 ) (lower-hex-at t) lower-hex.Post
 lower-hex-hex-digit-requires t c κs = omega arith
 
--- src/lib.rt:43:9
 lower-hex-slice-write-out : (t : ℕ) → lower-hex-lts.Need-slice-write-out (
   hex-digit-reads.Asked,
   hex-digit-reads.Learnt,
@@ -42,7 +40,6 @@ lower-hex-slice-write-out : (t : ℕ) → lower-hex-lts.Need-slice-write-out (
 ) (lower-hex-at t) lower-hex.Post
 lower-hex-slice-write-out t c = omega arith
 
--- src/lib.rt:44:16
 lower-hex-add-result : (t : ℕ) → lower-hex-lts.Need-add-result (
   hex-digit-reads.Asked,
   hex-digit-reads.Learnt,
@@ -51,7 +48,6 @@ lower-hex-add-result : (t : ℕ) → lower-hex-lts.Need-add-result (
 ) (lower-hex-at t) lower-hex.Post
 lower-hex-add-result t c = omega arith
 
--- src/lib.rt:44:9
 lower-hex-same-length : (t : ℕ) → lower-hex-lts.Need-same-length (
   hex-digit-reads.Asked,
   hex-digit-reads.Learnt,
@@ -60,7 +56,6 @@ lower-hex-same-length : (t : ℕ) → lower-hex-lts.Need-same-length (
 ) (lower-hex-at t) lower-hex.Post
 lower-hex-same-length t c = let a = c .before .before .before .args in length-set (a .out .now) (a .at) (c .hex-digit .result)
 
--- src/lib.rt:44:9
 lower-hex-returns : (t : ℕ) → lower-hex-lts.Need-returns (
   hex-digit-reads.Asked,
   hex-digit-reads.Learnt,
@@ -69,7 +64,6 @@ lower-hex-returns : (t : ℕ) → lower-hex-lts.Need-returns (
 ) (lower-hex-at t) lower-hex.Post
 lower-hex-returns t c = let a = c .before .before .before .args in put-digit (a .out .now) (a .at) (a .n) (c .hex-digit .result) (omega arith) (c .hex-digit .ensures) (omega arith)
 
--- src/lib.rt:46:9
 lower-hex-lower-hex-requires : (t : ℕ) → lower-hex-lts.Need-lower-hex-requires (
   hex-digit-reads.Asked,
   hex-digit-reads.Learnt,
@@ -78,7 +72,6 @@ lower-hex-lower-hex-requires : (t : ℕ) → lower-hex-lts.Need-lower-hex-requir
 ) (lower-hex-at t) lower-hex.Post
 lower-hex-lower-hex-requires t c κs = (omega arith, omega arith)
 
--- src/lib.rt:47:16
 lower-hex-hex-digit-requires-2 : (t : ℕ) → lower-hex-lts.Need-hex-digit-requires-2 (
   hex-digit-reads.Asked,
   hex-digit-reads.Learnt,
@@ -87,7 +80,6 @@ lower-hex-hex-digit-requires-2 : (t : ℕ) → lower-hex-lts.Need-hex-digit-requ
 ) (lower-hex-at t) lower-hex.Post
 lower-hex-hex-digit-requires-2 t c κs = omega arith
 
--- src/lib.rt:47:5
 lower-hex-slice-write-out-2 : (t : ℕ) → lower-hex-lts.Need-slice-write-out-2 (
   hex-digit-reads.Asked,
   hex-digit-reads.Learnt,
@@ -99,7 +91,6 @@ lower-hex-slice-write-out-2 t c =
     let p = c .before .before .before .lower-hex .ensures in
     omega (arith, p .ends, put-length p, hex-fits (a .n / 16) 6 (omega arith))
 
--- src/lib.rt:48:5
 lower-hex-add-result-2 : (t : ℕ) → lower-hex-lts.Need-add-result-2 (
   hex-digit-reads.Asked,
   hex-digit-reads.Learnt,
@@ -111,7 +102,6 @@ lower-hex-add-result-2 t c =
     let p = c .before .before .before .lower-hex .ensures in
     omega (arith, p .ends, hex-fits (a .n / 16) 6 (omega arith))
 
--- src/lib.rt:38:1
 lower-hex-same-length-2 : (t : ℕ) → lower-hex-lts.Need-same-length-2 (
   hex-digit-reads.Asked,
   hex-digit-reads.Learnt,
@@ -122,7 +112,6 @@ lower-hex-same-length-2 t c =
     let k = c .before .before .before .lower-hex in
     length-set (k .last .0) (k .result) (c .hex-digit2 .result) ∙ put-length (k .ensures)
 
--- src/lib.rt:38:1
 lower-hex-returns-2 : (t : ℕ) → lower-hex-lts.Need-returns-2 (
   hex-digit-reads.Asked,
   hex-digit-reads.Learnt,

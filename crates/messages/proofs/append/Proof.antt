@@ -8,8 +8,6 @@ use lib.Seq.{paste, paste-zero, paste-suc, length-paste}
 use Rattle.messages.proofs.BufferLaws.{put-all}
 use Rattle.messages.proofs.append.Statement.{statement}
 use Rattle.messages.proofs.append.Tie as tie
-use Rattle.messages.proofs.append.Reads as reads
-use Rattle.messages.proofs.append.Lts as lts
 
 abbrev Inv-loop : tie.InvT-loop
 Inv-loop out₀ at text i₀ out i = (i ≤ length text) × (out ≡ paste out₀ at text i)
@@ -17,52 +15,42 @@ Inv-loop out₀ at text i₀ out i = (i ≤ length text) × (out ≡ paste out�
 abbrev μ-loop : tie.MeasureT-loop
 μ-loop out₀ at text i₀ out i = length text - i
 
--- src/lib.rt:21:5
 loop-holds : tie.Need-loop-holds Inv-loop μ-loop
 loop-holds c = (omega arith, paste-zero (c .args .out .now) (c .args .at) (c .args .text .now))
 
--- src/lib.rt:22:23
 shared-slice-read-out : tie.Need-shared-slice-read-out Inv-loop μ-loop
 shared-slice-read-out c = omega arith
 
--- src/lib.rt:22:13
 add-out : tie.Need-add-out Inv-loop μ-loop
 add-out c = omega arith
 
--- src/lib.rt:22:9
 slice-write-out : tie.Need-slice-write-out Inv-loop μ-loop
 slice-write-out c =
     let a = c .before .before .before .args in
     let l = c .before .before .loop in
     omega (arith, ap length (l .inv .1) ∙ length-paste (a .out .now) (a .at) (a .text .now) (l .i) (omega arith) (omega arith))
 
--- src/lib.rt:23:9
 add-i : tie.Need-add-i Inv-loop μ-loop
 add-i c = omega arith
 
--- src/lib.rt:21:5
 loop-less : tie.Need-loop-less Inv-loop μ-loop
 loop-less c = omega arith
 
--- src/lib.rt:21:5
 loop-again : tie.Need-loop-again Inv-loop μ-loop
 loop-again c =
     let a = c .before .before .before .args in
     let l = c .before .before .loop in
     (omega arith, rw (l .inv .1, add-one) (paste-suc (a .out .now) (a .at) (a .text .now) (l .i) 0 (omega arith) (omega arith)))
 
--- src/lib.rt:25:5
 add-result : tie.Need-add-result Inv-loop μ-loop
 add-result c = omega arith
 
--- src/lib.rt:16:1
 same-length : tie.Need-same-length Inv-loop μ-loop
 same-length c =
     let a = c .before .before .args in
     let l = c .before .loop in
     ap length (l .inv .1) ∙ length-paste (a .out .now) (a .at) (a .text .now) (l .i) (omega arith) (omega arith)
 
--- src/lib.rt:16:1
 returns : tie.Need-returns Inv-loop μ-loop
 returns c =
     let a = c .before .before .args in

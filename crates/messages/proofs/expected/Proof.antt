@@ -5,54 +5,40 @@ use Rattle.messages.proofs.BufferLaws.{put-length, put-put}
 use Rattle.messages.proofs.CharLaws.{shown-fits}
 use Rattle.messages.proofs.expected.Statement.{statement}
 use Rattle.messages.proofs.expected.Tie as tie
-use Rattle.messages.proofs.expected.Reads as reads
-use Rattle.messages.proofs.expected.Lts as lts
-use Rattle.messages.proofs.append.Reads as append-reads
-use Rattle.messages.proofs.escape_char.Reads as escape-char-reads
 
--- src/lib.rt:88:31
 slice-aggregate-append : tie.Need-slice-aggregate-append
 slice-aggregate-append c = refl
 
--- src/lib.rt:88:9
 append-requires : tie.Need-append-requires
 append-requires c κs = omega arith
 
--- src/lib.rt:89:9
 escape-char-requires : tie.Need-escape-char-requires
 escape-char-requires c κs = omega arith
 
--- src/lib.rt:90:37
 slice-aggregate-append-2 : tie.Need-slice-aggregate-append-2
 slice-aggregate-append-2 c = refl
 
--- src/lib.rt:90:9
 append-requires-2 : tie.Need-append-requires-2
 append-requires-2 c κs =
     let a = c .before .before .before .before .before .before .before .before .before .before .before .before .args in
     omega (arith, c .before .before .before .before .before .before .before .before .append .ensures .ends, put-length (c .before .before .before .before .before .before .before .before .append .ensures), c .before .before .before .before .escape-char .ensures .ends, put-length (c .before .before .before .before .escape-char .ensures), shown-fits (a .wanted) 7 (omega arith))
 
--- src/lib.rt:91:9
 escape-char-requires-2 : tie.Need-escape-char-requires-2
 escape-char-requires-2 c κs =
     let a = c .before .before .before .before .before .before .before .before .before .before .before .before .before .before .before .before .args in
     omega (arith, c .before .before .before .before .before .before .before .before .before .before .before .before .append .ensures .ends, put-length (c .before .before .before .before .before .before .before .before .before .before .before .before .append .ensures), c .before .before .before .before .before .before .before .before .escape-char .ensures .ends, put-length (c .before .before .before .before .before .before .before .before .escape-char .ensures), c .before .before .before .append2 .ensures .ends, put-length (c .before .before .before .append2 .ensures), shown-fits (a .wanted) 7 (omega arith))
 
--- src/lib.rt:92:22
 slice-aggregate-append-3 : tie.Need-slice-aggregate-append-3
 slice-aggregate-append-3 c = refl
 
--- src/lib.rt:92:5
 append-requires-3 : tie.Need-append-requires-3
 append-requires-3 c κs =
     let a = c .before .before .before .before .before .before .before .before .before .before .before .before .before .before .before .before .before .before .before .before .before .args in
     omega (arith, c .before .before .before .before .before .before .before .before .before .before .before .before .before .before .before .before .before .append .ensures .ends, put-length (c .before .before .before .before .before .before .before .before .before .before .before .before .before .before .before .before .before .append .ensures), c .before .before .before .before .before .before .before .before .before .before .before .before .before .escape-char .ensures .ends, put-length (c .before .before .before .before .before .before .before .before .before .before .before .before .before .escape-char .ensures), c .before .before .before .before .before .before .before .before .append2 .ensures .ends, put-length (c .before .before .before .before .before .before .before .before .append2 .ensures), c .before .before .before .before .escape-char2 .ensures .ends, put-length (c .before .before .before .before .escape-char2 .ensures), shown-fits (a .wanted) 7 (omega arith), shown-fits (a .found) 7 (omega arith))
 
--- src/lib.rt:84:1
 same-length : tie.Need-same-length
 same-length c = put-length (put-put (c .before .before .before .before .before .before .before .before .before .before .before .before .before .before .before .before .before .before .before .before .append .ensures) (put-put (c .before .before .before .before .before .before .before .before .before .before .before .before .before .before .before .before .escape-char .ensures) (put-put (c .before .before .before .before .before .before .before .before .before .before .before .append2 .ensures) (put-put (c .before .before .before .before .before .before .before .escape-char2 .ensures) (c .before .before .append3 .ensures)))))
 
--- src/lib.rt:84:1
 returns : tie.Need-returns
 returns c =
     put-put (c .before .before .before .before .before .before .before .before .before .before .before .before .before .before .before .before .before .before .before .before .append .ensures) (put-put (c .before .before .before .before .before .before .before .before .before .before .before .before .before .before .before .before .escape-char .ensures) (put-put (c .before .before .before .before .before .before .before .before .before .before .before .append2 .ensures) (put-put (c .before .before .before .before .before .before .before .escape-char2 .ensures) (c .before .before .append3 .ensures))))

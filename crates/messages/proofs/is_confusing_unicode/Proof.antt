@@ -5,41 +5,31 @@ use Rattle.wat.specs.{Bytes.has, Chars.confusing}
 use Rattle.messages.proofs.CharLaws.{not-confusing, is-confusing}
 use Rattle.messages.proofs.is_confusing_unicode.Statement.{statement}
 use Rattle.messages.proofs.is_confusing_unicode.Tie as tie
-use Rattle.messages.proofs.is_confusing_unicode.Reads as reads
-use Rattle.messages.proofs.is_confusing_unicode.Lts as lts
 
--- src/lib.rt:121:1
 returns : tie.Need-returns
 returns c = not-confusing (c .before .before .args .c) (omega arith)
 
--- src/lib.rt:121:1
 returns-2 : tie.Need-returns-2
 returns-2 c = not-confusing (c .before .before .before .before .args .c) (omega arith)
 
--- src/lib.rt:121:1
 returns-3 : tie.Need-returns-3
 returns-3 c = not-confusing (c .before .before .before .before .before .before .args .c) (omega arith)
 
--- src/lib.rt:121:1
 returns-4 : tie.Need-returns-4
 returns-4 c = not-confusing (c .before .before .before .before .before .before .before .args .c) (omega arith)
 
--- src/lib.rt:121:1
 returns-5 : tie.Need-returns-5
 unfolding confusing has
 returns-5 c = rw (c .match .keys1)
 
--- src/lib.rt:121:1
 returns-6 : tie.Need-returns-6
 unfolding confusing has
 returns-6 c = is-confusing 0x202A 2 (c .before .before .before .args .c) (refl, (refl, tt)) (omega arith) (omega arith)
 
--- src/lib.rt:121:1
 returns-7 : tie.Need-returns-7
 unfolding confusing has
 returns-7 c = is-confusing 0x202D 2 (c .before .before .before .before .before .args .c) (refl, (refl, tt)) (omega arith) (omega arith)
 
--- src/lib.rt:121:1
 returns-8 : tie.Need-returns-8
 unfolding confusing has
 returns-8 c = is-confusing 0x2066 4 (c .before .before .before .before .before .before .before .args .c) (refl, (refl, (refl, (refl, tt)))) (omega arith) (omega arith)

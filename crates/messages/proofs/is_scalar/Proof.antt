@@ -2,20 +2,15 @@ use borrow.Author.Tests.{lt-ltb, le-ltb, le-leb, lt-leb}
 use Rattle.wat.specs.{Bytes.between, Chars.isScalar}
 use Rattle.messages.proofs.is_scalar.Statement.{statement}
 use Rattle.messages.proofs.is_scalar.Tie as tie
-use Rattle.messages.proofs.is_scalar.Reads as reads
-use Rattle.messages.proofs.is_scalar.Lts as lts
 
--- src/lib.rt:115:1
 returns : tie.Need-returns
 unfolding isScalar
 returns c = rw (lt-ltb (c .before .args .c) 0xD800 (c .if1 .taken))
 
--- src/lib.rt:115:1
 returns-2 : tie.Need-returns-2
 unfolding isScalar between
 returns-2 c = rw (le-ltb (c .before .before .args .c) 0xD800 (c .before .if1 .left), le-leb 0xE000 (c .before .before .args .c) (c .if2 .taken))
 
--- src/lib.rt:115:1
 returns-3 : tie.Need-returns-3
 unfolding isScalar between
 returns-3 c = rw (le-ltb (c .before .before .args .c) 0xD800 (c .before .if1 .left), lt-leb 0xE000 (c .before .before .args .c) (c .if2 .left))

@@ -6,60 +6,43 @@ use types.Run.{miss}
 use borrow.Author.Tests.{not-true, not-false}
 use Rattle.wat.specs.Messages.{Tells}
 use Rattle.messages.proofs.BufferLaws.{put-length}
-use Rattle.messages.proofs.MessageLaws.{untold, formatted-length, cut, delivered}
+use Rattle.messages.proofs.AnswerLaws.{untold, formatted-length, cut, delivered}
 use Rattle.messages.proofs.message.Statement.{statement}
 use Rattle.messages.proofs.message.Tie as tie
-use Rattle.messages.proofs.message.Reads as reads
-use Rattle.messages.proofs.message.Lts as lts
-use Rattle.messages.proofs.append.Reads as append-reads
-use Rattle.messages.proofs.fmt.Reads as fmt-reads
-use Rattle.messages.proofs.has_message.Reads as has-message-reads
 
--- src/lib.rt:165:26
 enum-known-r : tie.Need-enum-known-r
 enum-known-r c = c .match .keys1
 
--- src/lib.rt:166:9
 returns : tie.Need-returns
 returns c = Tells.none (λ e m q d. miss (0 ∷ 1 ∷ 2 ∷ 3 ∷ 5 ∷ 6 ∷ 7 ∷ 8 ∷ []) 4 tt (rw q at (c .match .keys2)))
 
--- src/lib.rt:168:9
 has-message-requires : tie.Need-has-message-requires
 has-message-requires c κs = tt
 
--- src/lib.rt:169:9
 returns-2 : tie.Need-returns-2
 returns-2 c = untold (c .before .before .before .r .given .1) (sym (c .before .has-message .ensures) ∙ not-true _ (c .if1 .taken))
 
--- src/lib.rt:172:20
 slice-aggregate-fmt : tie.Need-slice-aggregate-fmt
 slice-aggregate-fmt c = refl
 
--- src/lib.rt:172:9
 fmt-requires : tie.Need-fmt-requires
 fmt-requires c κs = refl
 
--- src/lib.rt:174:9
 returns-3 : tie.Need-returns-3
 returns-3 c = cut (c .before .before .before .before .before .before .before .r .given .1) (sym (c .before .before .before .before .before .has-message .ensures) ∙ not-false _ (c .before .before .before .before .if1 .left)) (c .before .before .fmt .ensures) (c .if2 .taken)
 
--- src/lib.rt:176:23
 array-share-prefix-text : tie.Need-array-share-prefix-text
 array-share-prefix-text c = omega (arith, c .before .before .before .fmt .ensures .fits)
 
--- src/lib.rt:176:23
 slice-aggregate-append : tie.Need-slice-aggregate-append
 slice-aggregate-append c = formatted-length (c .before .before .before .before .fmt .ensures)
 
--- src/lib.rt:176:5
 append-requires : tie.Need-append-requires
 append-requires c κs = omega (arith, formatted-length (c .before .before .before .before .fmt .ensures), c .before .before .if2 .left)
 
--- src/lib.rt:162:1
 same-length : tie.Need-same-length
 same-length c = put-length (c .before .before .append .ensures)
 
--- src/lib.rt:162:1
 returns-4 : tie.Need-returns-4
 returns-4 c = delivered (c .before .before .before .before .before .before .before .before .before .before .before .before .r .given .1) (sym (c .before .before .before .before .before .before .before .before .before .before .has-message .ensures) ∙ not-false _ (c .before .before .before .before .before .before .before .before .before .if1 .left)) (c .before .before .before .before .before .before .before .fmt .ensures) (c .before .before .before .before .before .if2 .left) (c .before .before .append .ensures)
 

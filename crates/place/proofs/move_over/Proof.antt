@@ -6,8 +6,6 @@ use borrow.Author.Needs.{needs}
 use Rattle.place.proofs.WalkLaws.{Walked, walked-none, walked-feed, walked-byte, feed-full, byte-full, walked-all}
 use Rattle.place.proofs.move_over.Statement.{statement}
 use Rattle.place.proofs.move_over.Tie as tie
-use Rattle.place.proofs.move_over.Reads as reads
-use Rattle.place.proofs.move_over.Lts as lts
 
 abbrev Inv-loop : tie.InvT-loop
 Inv-loop p w line₀ column₀ i₀ line column i = Walked p w line column i
