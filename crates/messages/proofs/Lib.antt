@@ -1,0 +1,4 @@
+pub mod BufferLaws
+pub mod CharLaws
+pub mod MessageLaws
+pub mod AnswerLaws
