@@ -1,0 +1,5 @@
+pub mod SliceLaws
+pub mod DigitLaws
+pub mod PartLaws
+pub mod WordLaws
+pub mod KindLaws

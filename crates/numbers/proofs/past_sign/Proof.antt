@@ -1,0 +1,31 @@
+-- `numbers::past_sign` meets its contract: it passes the byte that the model passes.
+-- Assumes nothing.
+use borrow.Author.Needs.{needs}
+use native.Mathlib.Omega.{arith}
+use Rattle.numbers.proofs.PartLaws.{none-after-sign, after-one, after-none}
+use Rattle.numbers.proofs.past_sign.Statement.{statement}
+use Rattle.numbers.proofs.past_sign.Tie as tie
+
+returns : tie.Need-returns
+returns c =
+    let a = c .before .args in
+    record { same = none-after-sign (a .text .now) (a .at) (a .end) (c .if1 .taken); within = omega arith }
+
+shared-slice-read-c : tie.Need-shared-slice-read-c
+shared-slice-read-c c = search needs
+
+add-result : tie.Need-add-result
+add-result c = search needs
+
+returns-2 : tie.Need-returns-2
+returns-2 c =
+    let a = c .before .before .before .args in
+    record { same = after-one (a .text .now) (a .at) (a .end) (omega arith) (omega arith) (c .if2 .taken); within = omega arith }
+
+returns-3 : tie.Need-returns-3
+returns-3 c =
+    let a = c .before .before .before .args in
+    record { same = after-none (a .text .now) (a .at) (a .end) (omega arith) (omega arith) (c .if2 .left); within = omega arith }
+
+pub past-sign-spec : {M : Type 1} → statement M
+past-sign-spec = tie.close (tie.spec returns shared-slice-read-c add-result returns-2 returns-3)
