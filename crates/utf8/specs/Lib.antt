@@ -1,0 +1,4 @@
+pub mod Fronts
+pub mod Decoding
+pub mod Boundary
+pub mod Writing
