@@ -2,16 +2,20 @@
 
 ghost use mathlib.Core.Path.{_≡_};
 ghost use Prim.Native.Nat.{ℕ, _+_, _≤_, _<_};
-ghost use lib.ListN.{length, drop};
+ghost use lib.ListN.{length, getD, drop};
 ghost use lib.Seq.{slice};
 ghost use Rattle.wat.specs.declared.Number.the-variants.{Neither};
 ghost use Rattle.wat.specs.Cases.{kindNumber};
+ghost use Rattle.wat.specs.NumberModel.{classify};
 ghost use Rattle.wat.specs.LexModel.{next, wordKind};
 ghost use Rattle.wat.proofs.RunKinds.{quotedBy};
 ghost use Rattle.lexer.specs.Steps.{nowhere};
 ghost use Rattle.lexer.specs.Checks.{Sound, Meets};
 use wat::Checked;
+use wat::FloatKind;
+use wat::IntegerKind;
 use wat::LexError;
+use wat::Number;
 use wat::Refusal;
 use wat::Token;
 use wat::TokenKind;
@@ -65,6 +69,44 @@ fn plain_kind(b: u8) -> u16
         return TokenKind::KEYWORD;
     }
     TokenKind::RESERVED
+}
+
+// The number of the kind of a word, by the number that it is and its first byte.
+fn named_kind(n: Number, b: u8) -> u16
+    ensures { λ r. ⌜ r ≡ kindNumber (wordKind n b) ⌝ }
+{
+    match n {
+        Number::Integer {
+            sign,
+            hex,
+            underscores,
+        } => kinds::kind_number(TokenKind::Integer(IntegerKind {
+            sign,
+            underscores,
+            hex,
+        })),
+        Number::Inf { negative } => kinds::kind_number(TokenKind::Float(FloatKind::Inf { negative })),
+        Number::Nan { negative } => kinds::kind_number(TokenKind::Float(FloatKind::Nan { negative })),
+        Number::NanVal {
+            negative,
+            underscores,
+        } => kinds::kind_number(TokenKind::Float(FloatKind::NanVal {
+            negative,
+            underscores,
+        })),
+        Number::Normal { hex, underscores } => {
+            kinds::kind_number(TokenKind::Float(FloatKind::Normal { underscores, hex }))
+        }
+        Number::Neither => plain_kind(b),
+    }
+}
+
+// The number of the kind of the idchars from `at` to `end`.
+fn word_kind(s: &[u8], at: usize, end: usize) -> u16
+    requires { ⌜ (at < end) × (end ≤ length (now s)) ⌝ }
+    ensures { λ r. ⌜ r ≡ kindNumber (wordKind (classify (slice at end (now (s .entry)))) (getD (now (s .entry)) at 0)) ⌝ }
+{
+    named_kind(numbers::classify_number(s, at, end), s[at])
 }
 
 // The number of the kind of the idchars from `at` to `end` and one string.
