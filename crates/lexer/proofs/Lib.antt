@@ -5,3 +5,4 @@ pub mod RunLaws
 pub mod LexLaws
 pub mod ReservedLaws
 pub mod WalkLaws
+pub mod CommentLaws

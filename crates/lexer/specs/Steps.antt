@@ -22,6 +22,13 @@ stepOf at answer.End = nowhere at
 stepOf at (answer.Token k n) = record { kind = kindNumber k; end = at + n }
 stepOf at (answer.Fault e p n) = nowhere at
 
+-- the step is that of the answer for what is left from a place on
+pub record Stepped (σ : Settings) (s : List ℕ) (at : ℕ) (r : Step) : Type 0 where
+  pub same : r ≡ stepOf at (lex σ (drop at s))
+  pub onward : (r .kind ≡ 0 → ⊥) → at < r .end
+  pub within : r .end ≤ length s
+  pub small : r .kind < 4096
+
 abbrev pub faultAt : ℕ → LexError → ℕ → ℕ → Fault
 faultAt at e p n = record { error = e; place = at + p; after = at + n }
 

@@ -1,16 +1,23 @@
 // One token at a position of a text: the Rust's `Lexer`, with the text, its flag and the position as plain parameters.
 
 ghost use mathlib.Core.Path.{_≡_};
-ghost use Prim.Native.Nat.{ℕ, _+_, _≤_, _<_};
+ghost use Prim.Native.Nat.{ℕ, suc, _+_, _-_, _≤_, _<_};
 ghost use lib.ListN.{length, getD, drop};
 ghost use lib.Seq.{slice};
 ghost use Rattle.wat.specs.declared.Number.the-variants.{Neither};
+ghost use Rattle.wat.specs.Utf8.{WellFormed};
 ghost use Rattle.wat.specs.Cases.{kindNumber};
 ghost use Rattle.wat.specs.NumberModel.{classify};
+ghost use Rattle.wat.specs.RunModel as run;
 ghost use Rattle.wat.specs.LexModel.{next, wordKind};
+ghost use Rattle.wat.specs.LexModel as model;
 ghost use Rattle.wat.proofs.RunKinds.{quotedBy};
-ghost use Rattle.lexer.specs.Steps.{nowhere};
+ghost use Rattle.classes.specs.Table.{Classes};
+ghost use Rattle.lexer.specs.Steps.{nowhere, stepOf, walkOf, Stepped};
 ghost use Rattle.lexer.specs.Checks.{Sound, Meets};
+use classes::Family;
+use comments::Confusing;
+use strings::Body;
 use wat::Checked;
 use wat::FloatKind;
 use wat::IntegerKind;
@@ -19,6 +26,8 @@ use wat::Number;
 use wat::Refusal;
 use wat::Token;
 use wat::TokenKind;
+
+mod strings;
 
 // A token by two numbers, which come back in registers: that of its kind, and the place past it. 0 and the place itself where no token is.
 pub struct Step {
@@ -43,6 +52,12 @@ pub enum Walk {
 pub enum Met {
     Stands,
     Turned { refusal: Refusal, place: usize },
+}
+
+fn nothing(at: usize) -> Step
+    ensures { λ r. ⌜ r ≡ nowhere at ⌝ }
+{
+    Step { kind: 0, end: at }
 }
 
 // Whether the byte at a place, which may be any, is b.
@@ -128,6 +143,155 @@ fn quoted_kind(s: &[u8], at: usize, end: usize) -> u16
         return TokenKind::ANNOTATION;
     }
     TokenKind::RESERVED
+}
+
+// The run of idchars and strings from `at` on.
+fn parse_run(s: &[u8], at: usize, flag: bool, t: &[u8; 256]) -> Walk
+    requires { ⌜ at ≤ length (now s) ⌝ }
+    requires { ⌜ WellFormed (drop at (now s)) ⌝ }
+    requires { ⌜ Classes (now t) ⌝ }
+    ensures { λ r. ⌜ r ≡ walkOf at (run.walk (record { confusing = «flag» }) (suc (length (drop at (now (s .entry))))) (drop at (now (s .entry)))) ⌝ }
+{
+    let mut i = at;
+    loop {
+        let k = classes::idchars_end(s, i, t);
+        if !is_at(s, k, b'"') {
+            return Walk::Stops(k);
+        }
+        match strings::parse_str(s, k + 1, flag) {
+            Body::Closed { end } => {
+                i = end;
+            }
+            Body::Failed {
+                error,
+                place,
+                after,
+            } => {
+                return Walk::Fails(Fault {
+                    error,
+                    place,
+                    after,
+                });
+            }
+        }
+    }
+}
+
+// A token that is a run: idchars alone, idchars and one string, or more.
+fn parse_reserved(s: &[u8], at: usize, flag: bool, t: &[u8; 256]) -> Step
+    requires { ⌜ (at < length (now s)) × (model.family (getD (now s) at 0) ≡ model.run) ⌝ }
+    requires { ⌜ WellFormed (drop at (now s)) ⌝ }
+    requires { ⌜ Classes (now t) ⌝ }
+    ensures { λ r. ⌜ r ≡ stepOf at (model.lexBy (record { confusing = «flag» }) model.run (drop at (now (s .entry)))) ⌝ }
+{
+    let i = classes::idchars_end(s, at, t);
+    if !is_at(s, i, b'"') {
+        return Step {
+            kind: word_kind(s, at, i),
+            end: i,
+        };
+    }
+    match strings::parse_str(s, i + 1, flag) {
+        Body::Failed {
+            error: _,
+            place: _,
+            after: _,
+        } => nothing(at),
+        Body::Closed { end: j } => match parse_run(s, j, flag, t) {
+            Walk::Fails(_) => nothing(at),
+            Walk::Stops(k) => {
+                if k == j {
+                    return Step {
+                        kind: quoted_kind(s, at, i),
+                        end: j,
+                    };
+                }
+                Step {
+                    kind: TokenKind::RESERVED,
+                    end: k,
+                }
+            }
+        },
+    }
+}
+
+// The comment from `at` to `end`, unless the flag is off and it has a confusing character.
+fn comment(s: &[u8], at: usize, end: usize, kind: u16, flag: bool) -> Step
+    requires { ⌜ (at ≤ end) × (end ≤ length (now s)) ⌝ }
+    requires { ⌜ WellFormed (drop at (now s)) ⌝ }
+    ensures { λ r. ⌜ ((k : TokenKind) → kind ≡ kindNumber k → r ≡ stepOf at (model.comment (record { confusing = «flag» }) k (end - at) (drop at (now (s .entry))))) ⌝ }
+{
+    if flag {
+        return Step { kind, end };
+    }
+    match comments::check_confusing_comment(s, at, end) {
+        Confusing::Clear => Step { kind, end },
+        Confusing::Found {
+            at: _,
+            character: _,
+        } => nothing(at),
+    }
+}
+
+// `(`, or a block comment.
+fn open_paren(s: &[u8], at: usize, flag: bool) -> Step
+    requires { ⌜ at < length (now s) ⌝ }
+    requires { ⌜ WellFormed (drop at (now s)) ⌝ }
+    ensures { λ r. ⌜ r ≡ stepOf at (model.lexBy (record { confusing = «flag» }) model.open-paren (drop at (now (s .entry)))) ⌝ }
+{
+    if !is_at(s, at + 1, b';') {
+        return Step {
+            kind: TokenKind::LPAREN,
+            end: at + 1,
+        };
+    }
+    let end = comments::block_end(s, at + 2);
+    if end == 0 {
+        return nothing(at);
+    }
+    comment(s, at, end, TokenKind::BLOCK_COMMENT, flag)
+}
+
+// `;`, or a line comment.
+fn semicolon(s: &[u8], at: usize, flag: bool) -> Step
+    requires { ⌜ at < length (now s) ⌝ }
+    requires { ⌜ WellFormed (drop at (now s)) ⌝ }
+    ensures { λ r. ⌜ r ≡ stepOf at (model.lexBy (record { confusing = «flag» }) model.semi (drop at (now (s .entry)))) ⌝ }
+{
+    if !is_at(s, at + 1, b';') {
+        return Step {
+            kind: TokenKind::RESERVED,
+            end: at + 1,
+        };
+    }
+    comment(s, at, comments::line_end(s, at), TokenKind::LINE_COMMENT, flag)
+}
+
+// The token at a place before the end, by its first byte.
+pub fn parse_kind(s: &[u8], at: usize, flag: bool, t: &[u8; 256]) -> Step
+    requires { ⌜ at < length (now s) ⌝ }
+    requires { ⌜ WellFormed (drop at (now s)) ⌝ }
+    requires { ⌜ Classes (now t) ⌝ }
+    ensures { λ r. ⌜ Stepped (record { confusing = «flag» }) (now (s .entry)) at r ⌝ }
+{
+    match classes::begins(t, s[at]) {
+        Family::Spaces => Step {
+            kind: TokenKind::WHITESPACE,
+            end: classes::skip_ws(s, at, t),
+        },
+        Family::OpenParen => open_paren(s, at, flag),
+        Family::CloseParen => Step {
+            kind: TokenKind::RPAREN,
+            end: at + 1,
+        },
+        Family::Single => Step {
+            kind: TokenKind::RESERVED,
+            end: at + 1,
+        },
+        Family::Semi => semicolon(s, at, flag),
+        Family::Run => parse_reserved(s, at, flag, t),
+        Family::Other => nothing(at),
+    }
 }
 
 // 1 and 2: the text is too long, or no UTF-8.
