@@ -12,5 +12,6 @@ pub record Scanned (test : ℕ → Bool) (b : Bool) (s : List ℕ) (at r : ℕ) 
 
 -- a scan from i on answers the same
 pub record Passed (test : ℕ → Bool) (b : Bool) (s : List ℕ) (at i : ℕ) : Type 0 where
+  pub on : at ≤ i
   pub same : i + count test b (drop i s) ≡ at + count test b (drop at s)
   pub within : i ≤ length s
