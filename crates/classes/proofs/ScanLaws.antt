@@ -4,12 +4,10 @@ use mathlib.Core.Path.{_≡_, refl, sym, ap, _∙_}
 use mathlib.Core.Bool.{Bool, true, false, not}
 use mathlib.Core.List.{List, [], _∷_, _++_}
 use native.Mathlib.Omega.{arith}
-use native.Mathlib.Numerals.{add-one}
 use lib.ListN.{length, getD, take, drop, length-drop, take-append-drop, drop-of-length-le}
 use lib.Seq.{drop-cons, drop-drop, length-take-le}
 use Rattle.wat.specs.Bytes.{Each, none, next}
 use Rattle.wat.specs.LexModel.{count}
-use Rattle.wat.proofs.Hexnums.{differ}
 use Rattle.classes.specs.Scan.{Scanned, Passed}
 
 pub count-each : {test : ℕ → Bool} {b : Bool} {w : List ℕ} (u : List ℕ) → Each test b w → count test b (w ++ u) ≡ length w + count test b u

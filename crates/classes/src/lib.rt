@@ -158,7 +158,7 @@ pub fn is_letter(b: u8) -> bool
     (b'a' <= b) & (b <= b'z')
 }
 
-// The value of a hexadecimal digit, or 16 for any other character.
+// The value of a hexadecimal digit (0 to 9, A to F, a to f), or 16 for any other character.
 pub fn to_hex(c: u32) -> u8
     ensures { λ r. ⌜ hexOf c ≡ digitOf r ⌝ }
 {
@@ -192,7 +192,7 @@ pub fn is_confusing_unicode(c: u32) -> bool
     }
 }
 
-// The place behind the white space from `at` on.
+// The place behind the white space from `at` on. In UTF-8 the four bytes stand for themselves alone, so that no character is decoded.
 pub fn skip_ws(s: &[u8], at: usize, t: &[u8; 256]) -> usize
     requires { ⌜ at ≤ length (now s) ⌝ }
     requires { ⌜ Classes (now t) ⌝ }

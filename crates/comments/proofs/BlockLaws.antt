@@ -1,5 +1,5 @@
 -- Block comments: what a mark, and bytes that are none, do to the place where the comment ends. Assumes nothing.
-use Prim.Native.Nat.{ℕ, zero, suc, _+_, _-_, _≤_, _<_}
+use Prim.Native.Nat.{ℕ, suc, _+_, _-_, _≤_, _<_}
 use mathlib.Core.Path.{_≡_, refl, sym, ap, _∙_}
 use mathlib.Core.Bool.{Bool, true, false, _||_}
 use mathlib.Core.List.{List, [], _∷_, _++_}
@@ -11,9 +11,8 @@ use lib.Dec.{eqb}
 use lib.ListN.{length, getD, drop, length-drop}
 use lib.Seq.{drop-cons}
 use borrow.Author.Tests.{ne-eqb, eqb-true, eqb-false}
-use Rattle.wat.specs.Bytes.{byte, has, Each}
-use Rattle.wat.specs.CommentModel.{Mode, fresh, paren, semicolon, further, opens, ends}
-use Rattle.wat.proofs.Hexnums.{differ}
+use Rattle.wat.specs.Bytes.{byte, Each}
+use Rattle.wat.specs.CommentModel.{fresh, further, opens, ends}
 use Rattle.classes.specs.Scan.{Passed}
 use Rattle.classes.proofs.ScanLaws.{passed-between}
 use Rattle.comments.specs.Find.{among}

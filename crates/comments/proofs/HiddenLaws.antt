@@ -1,7 +1,7 @@
 -- Confusing characters: each begins with the byte 0xE2, which in a well-formed text stands at the start of a character alone. So the first
 -- of them is found at the bytes 0xE2. Assumes nothing.
 use Prim.Native.Nat.{ℕ, zero, suc, _+_, _-_, _*_, _/_, _%_, _≤_, _<_}
-use mathlib.Core.Path.{_≡_, refl, sym, ap, _∙_, subst}
+use mathlib.Core.Path.{_≡_, refl, sym, ap, _∙_}
 use mathlib.Core.Logic.{⊎-elim}
 use mathlib.Core.Bool.{Bool, true, false, or-self}
 use mathlib.Core.List.{List, [], _∷_, _++_}
@@ -11,11 +11,11 @@ use native.Mathlib.Numerals.{add-one}
 use lib.Dec.{leb, ltb, eqb}
 use lib.ListN.{length, getD, take, drop, length-append, length-drop, List·getD-append}
 use lib.Seq.{drop-cons, getD-drop, getD-append-add, take-at}
-use borrow.Author.Tests.{leb-true, eqb-true, eqb-false, eq-eqb, ne-eqb, ltb-true, ltb-false, le-ltb, lt-ltb}
+use borrow.Author.Tests.{leb-true, eqb-true, eqb-false, ne-eqb, ltb-true, ltb-false, le-ltb, lt-ltb}
 use Rattle.wat.specs.declared.TokenKind.{TokenKind}
 use Rattle.wat.specs.declared.LexError.the-variants.{ConfusingUnicode}
 use Rattle.wat.specs.declared.Answer.the-variants as answer
-use Rattle.wat.specs.Bytes.{has, Each, none, next}
+use Rattle.wat.specs.Bytes.{Each, none, next}
 use Rattle.wat.specs.Utf8.{Range, _‥_, table, Fits, Char, scalar, WellFormed, empty, more}
 use Rattle.wat.specs.Utf8Model.{pick}
 use Rattle.wat.specs.Chars.{confusing}
@@ -29,7 +29,6 @@ use Rattle.classes.specs.Scan.{Passed}
 use Rattle.classes.proofs.ScanLaws.{passed-between}
 use Rattle.comments.specs.Find.{among}
 use Rattle.comments.specs.Confusing.{before, hiddenIn}
-use Rattle.comments.specs.declared.Confusing.{Confusing}
 use Rattle.comments.specs.declared.Confusing.the-variants.{Clear, Found}
 use Rattle.comments.proofs.FindLaws.{among-or}
 
@@ -238,10 +237,13 @@ module _ (s : List ℕ) (from to : ℕ) where
     pub seen-next : confusing (scalar (take 3 (drop k s))) ≡ false → Seen s from to (k + 1)
     seen-next e = seen-more 1 p (omega arith) (ap glance front ∙ glance-plain (getD s k 0) (drop (k + 1) s) (ap (λ (l : List ℕ). confusing (scalar (take 3 l))) (sym front) ∙ e))
 
-    pub seen-found : lead (getD s k 0) ≡ true → confusing (scalar (take 3 (drop k s))) ≡ true → k < to → Found k (scalar (take 3 (drop k s))) ≡ hiddenIn from to (hidden (suc (length (drop from s))) (drop from s))
+    pub seen-found :
+        lead (getD s k 0) ≡ true → confusing (scalar (take 3 (drop k s))) ≡ true → k < to
+        → Found k (scalar (take 3 (drop k s))) ≡ hiddenIn from to (hidden (suc (length (drop from s))) (drop from s))
     seen-found l e b =
         let f : confusing (scalar (take 3 (getD s k 0 ∷ drop (k + 1) s))) ≡ true = ap (λ (z : List ℕ). confusing (scalar (take 3 z))) (sym front) ∙ e in
-        let g : glance (drop k s) ≡ found 0 (scalar (take 3 (drop k s))) = ap glance front ∙ glance-led (getD s k 0) (drop (k + 1) s) l f ∙ ap (λ (z : List ℕ). found 0 (scalar (take 3 z))) (sym front) in
+        let g : glance (drop k s) ≡ found 0 (scalar (take 3 (drop k s))) =
+        ap glance front ∙ glance-led (getD s k 0) (drop (k + 1) s) l f ∙ ap (λ (z : List ℕ). found 0 (scalar (take 3 z))) (sym front) in
         sym (in-here k to (scalar (take 3 (drop k s))) b) ∙ ap (hiddenIn k to) (sym g) ∙ p .same
 
     -- the character that 0xE2 begins is there

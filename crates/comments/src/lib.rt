@@ -13,7 +13,7 @@ ghost use Rattle.comments.specs.Find.{among, Skipped, Sought};
 ghost use Rattle.comments.specs.Ends.{BlockEnd};
 ghost use Rattle.comments.specs.Confusing.{hiddenIn};
 
-// Whether x is one of the 16 bytes from i on. With the one test in its loop LLVM makes it a vector comparison.
+// Whether x is one of the 16 bytes from i on. With one test in the loop LLVM makes a vector comparison of it.
 fn has16(x: u8, s: &[u8], i: usize) -> bool
     requires { ⌜ i + 16 ≤ length (now s) ⌝ }
     ensures { λ r. ⌜ r ≡ has x (take 16 (drop i (now (s .entry)))) ⌝ }
@@ -29,8 +29,8 @@ fn has16(x: u8, s: &[u8], i: usize) -> bool
     hit
 }
 
-// How many of the 16 bytes from i on come before the first that is x or y. Each byte has a bit, the lowest for the first byte, and a bit
-// above them all is set: so LLVM makes vector code of it too, with no branch that depends on the place.
+// How many of the 16 bytes from i on come before the first that is x or y. Each byte has a bit, the first byte the lowest, and the bit above
+// them all is set. No branch depends on the place, which no processor could foresee.
 fn first16(x: u8, y: u8, s: &[u8], i: usize) -> usize
     requires { ⌜ i + 16 ≤ length (now s) ⌝ }
     ensures { λ r. ⌜ r ≡ count (among x y) false (take 16 (drop i (now (s .entry)))) ⌝ }
@@ -106,8 +106,8 @@ pub fn line_end(s: &[u8], at: usize) -> usize
     memchr2(b'\n', b'\r', s, at, s.len())
 }
 
-// The place past a block comment whose `(;` ends at `at`, or 0 if nothing closes it. The marks are ASCII, so that bytes can be looked at
-// and no characters: in UTF-8 no other character has such a byte.
+// The place past a block comment whose `(;` ends at `at`, or 0 if nothing closes it. The marks are ASCII, and in UTF-8 no other character has
+// such a byte: bytes are looked at, and no character is decoded.
 pub fn block_end(s: &[u8], at: usize) -> usize
     requires { ⌜ at ≤ length (now s) ⌝ }
     ensures { λ r. ⌜ BlockEnd (now (s .entry)) at r ⌝ }
@@ -159,8 +159,8 @@ pub enum Confusing {
     Found { at: usize, character: u32 },
 }
 
-// The first confusing character of the comment from `from` to `to`. All of them begin with the byte 0xe2, which stands at the start of a
-// character alone: only there is a character read.
+// The first confusing character of the comment from `from` to `to`. Each of the nine begins with the byte 0xe2, which stands nowhere but at
+// the start of a character: only there is one decoded.
 pub fn check_confusing_comment(s: &[u8], from: usize, to: usize) -> Confusing
     requires { ⌜ (from ≤ to) × (to ≤ length (now s)) ⌝ }
     requires { ⌜ WellFormed (drop from (now s)) ⌝ }

@@ -1,6 +1,6 @@
 -- `begins` answers wat's `family`: the classes of the table first, since most bytes are in one. Assumes nothing.
 use Prim.Native.Nat.{ℕ}
-use mathlib.Core.Path.{_≡_, refl, sym, ap, _∙_}
+use mathlib.Core.Path.{sym, ap, _∙_}
 use Rattle.wat.specs.Bytes.{between, has}
 use Rattle.wat.specs.Chars.{space, idchar, punctuation}
 use Rattle.wat.specs.LexModel.{family}

@@ -19,7 +19,9 @@ memchr2-requires : tie.Need-memchr2-requires Inv-loop μ-loop
 memchr2-requires c κs = (omega arith, omega arith)
 
 -- at the next byte that may begin a mark
-reached : (c : tie.After-memchr2 Inv-loop μ-loop) → Inside (c .before .before .before .before .args .s .now) (c .before .before .before .before .args .at) (c .memchr2 .result) (c .before .before .loop .level)
+reached :
+    (c : tie.After-memchr2 Inv-loop μ-loop) → let a = c .before .before .before .before .args in
+    Inside (a .s .now) (a .at) (c .memchr2 .result) (c .before .before .loop .level)
 reached c = let l = c .before .before .loop in inside-plain _ _ (l .i) (l .level) (c .memchr2 .result) (l .inv) (c .memchr2 .ensures .passed)
 
 sub-if1 : tie.Need-sub-if1 Inv-loop μ-loop
@@ -62,7 +64,9 @@ add-result : tie.Need-add-result Inv-loop μ-loop
 add-result c = omega arith
 
 returns-2 : tie.Need-returns-2 Inv-loop μ-loop
-returns-2 c = inside-last _ _ _ _ (reached (c .before .before .before .before .before .before)) (omega arith) (c .before .before .before .before .before .before .memchr2 .ensures .stops (omega arith)) (c .before .before .if2 .left) (c .before .if4 .taken) (c .if5 .taken)
+returns-2 c =
+    let m = c .before .before .before .before .before .before in
+    inside-last _ _ _ _ (reached m) (omega arith) (m .memchr2 .ensures .stops (omega arith)) (c .before .before .if2 .left) (c .before .if4 .taken) (c .if5 .taken)
 
 sub-level : tie.Need-sub-level Inv-loop μ-loop
 sub-level c = omega arith
@@ -74,7 +78,9 @@ loop-less-3 : tie.Need-loop-less-3 Inv-loop μ-loop
 loop-less-3 c = omega arith
 
 loop-again-3 : tie.Need-loop-again-3 Inv-loop μ-loop
-loop-again-3 c = inside-close _ _ _ _ (reached (c .before .before .before .before .before .before)) (omega arith) (c .before .before .before .before .before .before .memchr2 .ensures .stops (omega arith)) (c .before .before .if2 .left) (c .before .if4 .taken) (omega arith)
+loop-again-3 c =
+    let m = c .before .before .before .before .before .before in
+    inside-close _ _ _ _ (reached m) (omega arith) (m .memchr2 .ensures .stops (omega arith)) (c .before .before .if2 .left) (c .before .if4 .taken) (omega arith)
 
 add-i-4 : tie.Need-add-i-4 Inv-loop μ-loop
 add-i-4 c = omega arith
@@ -83,7 +89,9 @@ loop-less-4 : tie.Need-loop-less-4 Inv-loop μ-loop
 loop-less-4 c = omega arith
 
 loop-again-4 : tie.Need-loop-again-4 Inv-loop μ-loop
-loop-again-4 c = inside-semicolon _ _ _ _ (reached (c .before .before .before .before .before)) (omega arith) (c .before .before .before .before .before .memchr2 .ensures .stops (omega arith)) (c .before .if2 .left) (c .if4 .left)
+loop-again-4 c =
+    let m = c .before .before .before .before .before in
+    inside-semicolon _ _ _ _ (reached m) (omega arith) (m .memchr2 .ensures .stops (omega arith)) (c .before .if2 .left) (c .if4 .left)
 
 returns-3 : tie.Need-returns-3 Inv-loop μ-loop
 returns-3 c = inside-none _ _ _ _ (c .before .loop .inv) (omega arith)

@@ -19,7 +19,10 @@ sub-if2 c = search needs
 first16-requires : tie.Need-first16-requires
 first16-requires c κs = search needs
 
-found : (c : tie.After-first16) → Sought (c .before .before .before .before .before .args .x) (c .before .before .before .before .before .args .y) (c .before .before .before .before .before .args .s .now) (c .before .before .before .before .before .args .at) (c .before .before .before .before .before .args .to) (c .before .before .before .skip16 .result + c .first16 .result)
+-- the place in the next block
+found :
+    (c : tie.After-first16) → let a = c .before .before .before .before .before .args in
+    Sought (a .x) (a .y) (a .s .now) (a .at) (a .to) (c .before .before .before .skip16 .result + c .first16 .result)
 found c = let k = c .before .before .before .skip16 in rw (c .first16 .ensures) (sought-block _ _ _ _ _ (k .result) (k .ensures) (omega arith) (omega arith))
 
 add-result : tie.Need-add-result
