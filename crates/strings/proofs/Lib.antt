@@ -1,0 +1,3 @@
+pub mod RawLaws
+pub mod PassLaws
+pub mod CopyLaws

@@ -1,0 +1,264 @@
+// Whole strings as the Rust's `parse_str` reads them: where a string ends or how it fails, and the bytes that a whole one stands for. A string
+// is given by the position where its opening quote ends. Positions count from the text's start.
+
+ghost use mathlib.Core.Path.{_≡_};
+ghost use mathlib.Core.Bool.{true};
+ghost use Prim.Native.Nat.{_+_, _*_, _/_, _%_, _≤_, _<_};
+ghost use lib.ListN.{length, drop};
+ghost use lib.Seq.{slice};
+ghost use Rattle.wat.specs.Bytes.{byte, between, has};
+ghost use Rattle.wat.specs.Numbers.{digit};
+ghost use Rattle.wat.specs.Settings.{lenient};
+ghost use Rattle.strings.specs.Raw.{Raw, Raws, Pairs};
+ghost use Rattle.strings.specs.Whole.{string, Parsed, Whole, valueOf, Copied};
+use elements::Read;
+use wat::LexError;
+
+// What follows an opening quote: a string that ends past its closing quote, or an error, its place, and the position afterwards.
+pub enum Body {
+    Closed {
+        end: usize,
+    },
+    Failed {
+        error: LexError,
+        place: usize,
+        after: usize,
+    },
+}
+
+// Three fast paths for the loops below. Each leaves to `element` what it does not know.
+
+fn continues(b: u8) -> bool
+    ensures { λ r. ⌜ r ≡ between 0x80 0xBF b ⌝ }
+{
+    (0x80 <= b) & (b <= 0xBF)
+}
+
+// The length of a raw character of two bytes, or of three where it is from U+3000 to U+CFFF: none of these is confusing. 0 for any other.
+fn wide_raw(s: &[u8], at: usize) -> usize
+    requires { ⌜ at < length (now s) ⌝ }
+    ensures { λ r. ⌜ Raw (now (s .entry)) at r ⌝ }
+{
+    let a = s[at];
+    if a < 0xC2 {
+        return 0;
+    }
+    if a < 0xE0 {
+        if s.len() - at < 2 {
+            return 0;
+        }
+        if continues(s[at + 1]) {
+            return 2;
+        }
+        return 0;
+    }
+    if a < 0xE3 {
+        return 0;
+    }
+    if 0xEC < a {
+        return 0;
+    }
+    if s.len() - at < 3 {
+        return 0;
+    }
+    if continues(s[at + 1]) & continues(s[at + 2]) {
+        return 3;
+    }
+    0
+}
+
+// The end of some raw characters from `at` on.
+fn raw_end(s: &[u8], at: usize) -> usize
+    requires { ⌜ at ≤ length (now s) ⌝ }
+    ensures { λ r. ⌜ Raws (now (s .entry)) at r ⌝ }
+{
+    let mut i = at;
+    while i < s.len() {
+        let b = s[i];
+        if b < 0x20 {
+            return i;
+        }
+        if b == b'"' {
+            return i;
+        }
+        if b == b'\\' {
+            return i;
+        }
+        if b < 0x7F {
+            i += 1;
+        } else {
+            let n = wide_raw(s, i);
+            if n == 0 {
+                return i;
+            }
+            i += n;
+        }
+    }
+    i
+}
+
+fn is_hex(b: u8) -> bool
+    ensures { λ r. ⌜ r ≡ digit true b ⌝ }
+{
+    ((b'0' <= b) & (b <= b'9')) | (((b'A' <= b) & (b <= b'F')) | ((b'a' <= b) & (b <= b'f')))
+}
+
+// The value of a digit.
+fn hex_value(b: u8) -> u32
+    ensures { λ r. ⌜ r ≡ b % 16 + 9 * (b / 64) ⌝ }
+{
+    (b as u32) % 16 + 9 * ((b as u32) / 64)
+}
+
+// The byte of the `\hh` at a place, or 256 where none stands. In data any digit follows any other: so both are tested at once, and the value
+// is had by arithmetic, with no branch to be mispredicted.
+fn pair(s: &[u8], at: usize) -> u32
+    requires { ⌜ at ≤ length (now s) ⌝ }
+    ensures { λ r. ⌜ Pairs (drop at (now (s .entry))) r ⌝ }
+{
+    if s.len() - at < 3 {
+        return 256;
+    }
+    if s[at] != b'\\' {
+        return 256;
+    }
+    let h = s[at + 1];
+    let l = s[at + 2];
+    if is_hex(h) & is_hex(l) {
+        return hex_value(h) * 16 + hex_value(l);
+    }
+    256
+}
+
+// The string whose opening quote ends at `at`.
+pub fn parse_str(s: &[u8], at: usize, allow_confusing: bool) -> Body
+    requires { ⌜ at ≤ length (now s) ⌝ }
+    ensures { λ r. ⌜ Parsed (record { confusing = «allow_confusing» }) (now (s .entry)) at r ⌝ }
+{
+    let mut i = at;
+    loop {
+        i = raw_end(s, i);
+        if pair(s, i) < 256 {
+            i += 3;
+            continue;
+        }
+        match elements::element(s, i, allow_confusing) {
+            Read::Byte { value: _, len } => {
+                i += len;
+            }
+            Read::Char { value: _, len } => {
+                i += len;
+            }
+            Read::Quote => {
+                return Body::Closed { end: i + 1 };
+            }
+            Read::Refused {
+                error,
+                place,
+                after,
+            } => {
+                return Body::Failed {
+                    error,
+                    place: i + place,
+                    after: i + after,
+                };
+            }
+        }
+    }
+}
+
+// Whether the bytes from one place to another have a `\`: a string with none stands for its own bytes.
+pub fn has_escape(s: &[u8], from: usize, to: usize) -> bool
+    requires { ⌜ (from ≤ to) × (to ≤ length (now s)) ⌝ }
+    ensures { λ r. ⌜ r ≡ has (byte "\\") (slice from to (now (s .entry))) ⌝ }
+{
+    let mut i = from;
+    while i < to {
+        if s[i] == b'\\' {
+            return true;
+        }
+        i += 1;
+    }
+    false
+}
+
+// How many bytes a whole string stands for; its opening quote ends at `at`.
+pub fn decoded_len(s: &[u8], at: usize) -> usize
+    requires { ⌜ (at ≤ length (now s)) × Whole (string lenient (drop at (now s))) ⌝ }
+    ensures { λ r. ⌜ r ≡ length (valueOf (string lenient (drop at (now (s .entry))))) ⌝ }
+{
+    let mut n: usize = 0;
+    let mut i = at;
+    loop {
+        let j = raw_end(s, i);
+        n += j - i;
+        if pair(s, j) < 256 {
+            n += 1;
+            i = j + 3;
+            continue;
+        }
+        match elements::element(s, j, true) {
+            Read::Byte { value: _, len } => {
+                n += 1;
+                i = j + len;
+            }
+            Read::Char { value, len } => {
+                n += utf8::len_utf8(value);
+                i = j + len;
+            }
+            Read::Quote => {
+                return n;
+            }
+            Read::Refused {
+                error: _,
+                place: _,
+                after: _,
+            } => {
+                return n;
+            }
+        }
+    }
+}
+
+// The bytes that a whole string stands for, written at the front of a buffer that has the room.
+pub fn decode_into(s: &[u8], at: usize, dst: &mut [u8]) -> usize
+    requires { ⌜ (at ≤ length (now s)) × Whole (string lenient (drop at (now s))) ⌝ }
+    requires { ⌜ length (valueOf (string lenient (drop at (now s)))) ≤ length (now dst) ⌝ }
+    ensures { λ r. ⌜ Copied (now (dst .entry)) (now (dst .exit)) (valueOf (string lenient (drop at (now (s .entry))))) r ⌝ }
+{
+    let mut to: usize = 0;
+    let mut i = at;
+    loop {
+        let j = raw_end(s, i);
+        utf8::copy(dst, to, s, i, j - i);
+        to += j - i;
+        let b = pair(s, j);
+        if b < 256 {
+            dst[to] = b as u8;
+            to += 1;
+            i = j + 3;
+            continue;
+        }
+        match elements::element(s, j, true) {
+            Read::Byte { value, len } => {
+                dst[to] = value;
+                to += 1;
+                i = j + len;
+            }
+            Read::Char { value, len } => {
+                to += utf8::encode_utf8(dst, to, value);
+                i = j + len;
+            }
+            Read::Quote => {
+                return to;
+            }
+            Read::Refused {
+                error: _,
+                place: _,
+                after: _,
+            } => {
+                return to;
+            }
+        }
+    }
+}
