@@ -3,7 +3,7 @@ use Prim.Native.Nat.{ℕ, suc, _+_, _-_, _≤_, _<_}
 use mathlib.Core.Path.{_≡_, refl, sym, ap, _∙_}
 use mathlib.Core.Bool.{Bool, true, false}
 use mathlib.Core.List.{List, [], _∷_}
-use mathlib.Core.Option.{Option, none, some}
+use mathlib.Core.Option.{none, some}
 use native.Mathlib.Omega.{arith}
 use lib.Dec.{ltb}
 use lib.ListN.{length, drop, length-drop}
@@ -18,12 +18,13 @@ use Rattle.wat.specs.Bytes.{byte}
 use Rattle.wat.specs.Settings.{Settings}
 use Rattle.wat.specs.Chars.{newline}
 use Rattle.wat.specs.CommentModel.{fresh, ends}
-use Rattle.wat.specs.LexModel.{semi, open-paren, count, next, Hidden, clear, found, hidden, commentBy, comment, blockBy, lexBy}
+use Rattle.wat.specs.LexModel.{semi, open-paren, next, Hidden, clear, found, hidden, commentBy, comment, blockBy, lexBy}
 use Rattle.wat.proofs.Shapes.{both}
 use Rattle.classes.specs.Scan.{Scanned}
 use Rattle.comments.specs.declared.Confusing.{Confusing}
 use Rattle.comments.specs.declared.Confusing.the-variants.{Clear, Found}
 use Rattle.comments.specs.Ends.{endOf, BlockEnd}
+use Rattle.comments.proofs.BlockLaws.{open-none, closed-some}
 use Rattle.comments.specs.Confusing.{before, hiddenIn}
 
 -- ---- confusing characters
@@ -60,6 +61,23 @@ module _ (k : TokenKind) (s : List ℕ) (at end : ℕ) (b : Bool) where
 
 -- ---- comments by their marks
 
+pub open-within : (s : List ℕ) (at : ℕ) → next (byte ";") (drop (at + 1) s) ≡ true → at + 2 ≤ length s
+open-within s at n = go (drop (at + 1) s) refl n
+  where
+    go : (t : List ℕ) → drop (at + 1) s ≡ t → next (byte ";") t ≡ true → at + 2 ≤ length s
+    go [] e n = absurd (both n refl)
+    go (x ∷ t) e n = omega (arith, length-drop (at + 1) s, ap length e)
+
+module _ (s : List ℕ) (at : ℕ) {end : ℕ} (e : BlockEnd s (at + 2) end) where
+  block-none : end ≡ 0 → ends fresh 0 (drop (at + 2) s) ≡ none
+  block-none z = open-none (at + 2) (ends fresh 0 (drop (at + 2) s)) (omega arith) (sym (e .end) ∙ z)
+
+  block-some : (end ≡ 0 → ⊥) → ends fresh 0 (drop (at + 2) s) ≡ some (end - (at + 2))
+  block-some z = closed-some (at + 2) end (ends fresh 0 (drop (at + 2) s)) (omega arith) (e .end)
+
+  pub block-onward : (end ≡ 0 → ⊥) → at + 2 ≤ end
+  block-onward z = let q : end ≡ at + 2 + (end - (at + 2)) = e .end ∙ ap (endOf (at + 2)) (block-some z) in omega arith
+
 module _ (σ : Settings) (s : List ℕ) (at : ℕ) where
   second : next (byte ";") (drop 1 (drop at s)) ≡ next (byte ";") (drop (at + 1) s)
   second = ap (next (byte ";")) (drop-drop 1 at s)
@@ -75,35 +93,14 @@ module _ (σ : Settings) (s : List ℕ) (at : ℕ) where
     pub semi-comment : {end : ℕ} → Scanned newline false s at end → lexBy σ semi (drop at s) ≡ comment σ kind.LineComment (end - at) (drop at s)
     semi-comment c = rw (second ∙ n, lexBy) (ap (λ (m : ℕ). comment σ kind.LineComment m (drop at s)) (omega (arith, c .end)))
 
-    pub open-within : at + 2 ≤ length s
-    open-within = go (drop (at + 1) s) refl n
-      where
-        go : (t : List ℕ) → drop (at + 1) s ≡ t → next (byte ";") t ≡ true → at + 2 ≤ length s
-        go [] e n = absurd (both n refl)
-        go (x ∷ t) e n = omega (arith, length-drop (at + 1) s, ap length e)
-
     block : lexBy σ open-paren (drop at s) ≡ blockBy σ (drop at s) (ends fresh 0 (drop (at + 2) s))
     block = rw (second ∙ n, lexBy) (ap (λ (t : List ℕ). blockBy σ (drop at s) (ends fresh 0 t)) (drop-drop 2 at s))
 
     module _ {end : ℕ} (e : BlockEnd s (at + 2) end) where
       pub block-open : end ≡ 0 → lexBy σ open-paren (drop at s) ≡ answer.Fault DanglingBlockComment 0 0
-      block-open z = block ∙ go (ends fresh 0 (drop (at + 2) s)) (e .end)
-        where
-          go : (o : Option ℕ) → end ≡ endOf (at + 2) o → blockBy σ (drop at s) o ≡ answer.Fault DanglingBlockComment 0 0
-          go none q = refl
-          go (some m) q = absurd (omega arith)
+      block-open z = block ∙ ap (blockBy σ (drop at s)) (block-none s at e z)
 
-      module _ (z : end ≡ 0 → ⊥) where
-        pub block-onward : at ≤ end
-        block-onward = go (ends fresh 0 (drop (at + 2) s)) (e .end)
-          where
-            go : (o : Option ℕ) → end ≡ endOf (at + 2) o → at ≤ end
-            go none q = absurd (z q)
-            go (some m) q = omega arith
-
-        pub block-closed : lexBy σ open-paren (drop at s) ≡ comment σ kind.BlockComment (end - at) (drop at s)
-        block-closed = block ∙ go (ends fresh 0 (drop (at + 2) s)) (e .end)
-          where
-            go : (o : Option ℕ) → end ≡ endOf (at + 2) o → blockBy σ (drop at s) o ≡ comment σ kind.BlockComment (end - at) (drop at s)
-            go none q = absurd (z q)
-            go (some m) q = ap (λ (i : ℕ). comment σ kind.BlockComment i (drop at s)) (omega arith)
+      pub block-closed : (end ≡ 0 → ⊥) → lexBy σ open-paren (drop at s) ≡ comment σ kind.BlockComment (end - at) (drop at s)
+      block-closed z =
+          let l = block-onward s at e z in
+          block ∙ ap (blockBy σ (drop at s)) (block-some s at e z) ∙ ap (λ (n : ℕ). comment σ kind.BlockComment n (drop at s)) (omega arith)

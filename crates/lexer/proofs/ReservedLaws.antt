@@ -1,16 +1,15 @@
 -- What a run of idchars and strings is, by its first idchars, its first string and the rest. Assumes nothing.
-use Prim.Native.Nat.{ℕ, zero, suc, _+_, _-_, _≤_, _<_}
+use Prim.Native.Nat.{ℕ, zero, suc, _+_, _-_, _<_}
 use mathlib.Core.Path.{_≡_, refl, sym, ap, _∙_, subst}
 use mathlib.Core.Bool.{Bool, true, false}
 use mathlib.Core.List.{List, [], _∷_, _++_, append-nil, append-assoc}
 use native.Mathlib.Omega.{arith}
 use native.Mathlib.Nat.{add-zero}
-use lib.ListN.{length, getD, take, drop, length-append, length-drop}
-use lib.Seq.{slice, length-slice, slice-empty, drop-cons, drop-drop, take-append-add}
+use lib.ListN.{length, getD, take, drop}
+use lib.Seq.{slice, length-slice, take-append-add}
 use Rattle.wat.specs.declared.TokenKind.{TokenKind}
 use Rattle.wat.specs.declared.TokenKind.the-variants as kind
 use Rattle.wat.specs.declared.LexError.{LexError}
-use Rattle.wat.specs.declared.Answer.{Answer}
 use Rattle.wat.specs.declared.Answer.the-variants as answer
 use Rattle.wat.specs.Bytes.{byte, Each}
 use Rattle.wat.specs.Cases.{kindNumber}
@@ -20,18 +19,18 @@ use Rattle.wat.specs.Chars.{idchar}
 use Rattle.wat.specs.Strings.{HexNum, Elem, Elems, Str}
 use Rattle.wat.specs.Tokens.{Run}
 use Rattle.wat.specs.NumberModel.{classify}
-use Rattle.wat.specs.RunModel.{Body, closed, failed, body, Walk, stops, fails, on, strung, walk}
-use Rattle.wat.specs.LexModel.{Family, run, family, wordKind, kindOf, runBy, lexBy, lex, next}
+use Rattle.wat.specs.RunModel.{stops, fails, on, walk}
+use Rattle.wat.specs.LexModel.{run, family, wordKind, kindOf, runBy, lexBy, next}
 use Rattle.wat.proofs.Hexnums.{differ}
-use Rattle.wat.proofs.Runs.{Stopped, run-stops}
+use Rattle.wat.proofs.Runs.{run-stops}
 use Rattle.wat.proofs.OneKind.{kind-word}
 use Rattle.wat.proofs.RunKinds.{quotedBy, kind-one-string, kind-more}
 use Rattle.numbers.proofs.SliceLaws.{at-byte}
 use Rattle.classes.specs.Scan.{Scanned}
-use Rattle.lexer.specs.declared.Step.{Step}
 use Rattle.lexer.specs.Steps.{nowhere, stepOf}
 use Rattle.lexer.proofs.SliceLaws.{slice-split, slice-take, slice-join}
-use Rattle.lexer.proofs.RunLaws.{walked, bodied, Ran, ran-more, ran-walk, scanned-idchars, ran-idchars, idchars-stop, Quoted}
+use Rattle.lexer.proofs.StepLaws.{step-token, step-fault}
+use Rattle.lexer.proofs.RunLaws.{walked, Ran, ran-more, ran-walk, scanned-idchars, ran-idchars, idchars-stop, Quoted}
 use Rattle.lexer.proofs.LexLaws.{lex-family, Within, lex-within}
 
 -- ---- a string under any settings is one under the lenient ones
@@ -56,12 +55,12 @@ str-lenient (Str.quoted q) = Str.quoted (elems-lenient q)
 -- ---- the answer for a run, by where its walk ends
 
 module _ (σ : Settings) (s : List ℕ) (at : ℕ) where
-  step-stops : {n end : ℕ} {k : TokenKind} → walked σ (drop at s) ≡ stops n → kindOf (take n (drop at s)) ≡ k → end ≡ at + n
-      → record { kind = kindNumber k; end = end } ≡ stepOf at (lexBy σ run (drop at s))
-  step-stops e q l = rw e (rw (q, l))
+  step-stops : {n m end : ℕ} {k : TokenKind} → walked σ (drop at s) ≡ stops n → kindOf (take n (drop at s)) ≡ k → m ≡ kindNumber k → end ≡ at + n
+      → record { kind = m; end = end } ≡ stepOf at (lexBy σ run (drop at s))
+  step-stops {n} e q i l = step-token at (ap (runBy (drop at s)) e ∙ ap (λ (k : TokenKind). answer.Token k n) q) i l
 
   pub step-fails : {e : LexError} {p n : ℕ} → walked σ (drop at s) ≡ fails e p n → nowhere at ≡ stepOf at (lexBy σ run (drop at s))
-  step-fails e = rw e
+  step-fails e = step-fault at (ap (runBy (drop at s)) e)
 
 -- ---- idchars alone
 
@@ -74,14 +73,8 @@ module _ (σ : Settings) (s : List ℕ) (at i : ℕ) (c : Scanned idchar true s 
       ran-walk (ran-idchars c {σ = σ} g) ∙ ap (on (i - at)) (run-stops (suc (length (drop i s))) Run.none (idchars-stop c q) (omega arith))
       ∙ ap stops (add-zero (i - at))
 
-  pub word-some : at < length s → family (getD s at 0) ≡ run → at < i
-  word-some h f =
-      let w : Within (drop at s) (answer.Token (kindOf (take (i - at) (drop at s))) (i - at)) =
-      subst (Within (drop at s)) (lex-family σ s at h f ∙ ap (runBy (drop at s)) word-stops) (lex-within σ g) in
-      omega (arith, w .0)
-
   pub word-step : {k : ℕ} → at < i → k ≡ kindNumber (wordKind (classify (slice at i s)) (getD s at 0)) → record { kind = k; end = i } ≡ stepOf at (lexBy σ run (drop at s))
-  word-step {k} l e = rw e (step-stops σ s at word-stops (ap kindOf (slice-take s at i (c .within) (omega arith)) ∙ is) (omega arith))
+  word-step l e = step-stops σ s at word-stops (ap kindOf (slice-take s at i (c .within) (omega arith)) ∙ is) e (omega arith)
     where
       first : slice at i s ≡ getD s at 0 ∷ slice (at + 1) i s
       first = at-byte s at i l (c .within)
@@ -90,6 +83,16 @@ module _ (σ : Settings) (s : List ℕ) (at i : ℕ) (c : Scanned idchar true s 
       is =
           let w : Each idchar true (getD s at 0 ∷ slice (at + 1) i s) = rw first at (scanned-idchars c) in
           ap kindOf first ∙ kind-word w (each-head w) ∙ ap (λ (z : List ℕ). wordKind (classify z) (getD s at 0)) (sym first)
+
+pub word-some : (s : List ℕ) (at i : ℕ) → Scanned idchar true s at i → WellFormed (drop at s) → next (byte "\"") (drop i s) ≡ false → at < length s → family (getD s at 0) ≡ run → at < i
+word-some s at i c g q h f =
+    let w : Within (drop at s) (answer.Token (kindOf (take (i - at) (drop at s))) (i - at)) =
+    subst (Within (drop at s)) (lex-family lenient s at h f ∙ ap (runBy (drop at s)) (word-stops lenient s at i c g q)) (lex-within lenient g) in
+    omega (arith, w .0)
+
+pub word-fails : (σ : Settings) (s : List ℕ) (at i : ℕ) {e : LexError} {p n : ℕ} → Scanned idchar true s at i → WellFormed (drop at s) → walked σ (drop i s) ≡ fails e p n
+    → nowhere at ≡ stepOf at (lexBy σ run (drop at s))
+word-fails σ s at i c g e = step-fails σ s at (ran-walk (ran-idchars c {σ = σ} g) ∙ ap (on (i - at)) e)
 
 -- ---- idchars, a string and what follows
 
@@ -125,7 +128,7 @@ module _ (σ : Settings) (s : List ℕ) (at i j : ℕ) (c : Scanned idchar true 
         let is : kindOf (take (j - at + n) (drop at s)) ≡ quotedBy (slice at i s) =
         ap kindOf (bytes-of n ∙ ap (λ (m : ℕ). slice at i s ++ (slice i j s ++ take m (drop j s))) z ∙ ap (λ (y : List ℕ). slice at i s ++ y) (append-nil (slice i j s)))
         ∙ kind-one-string (scanned-idchars c) (str-lenient (d .is)) in
-        rw q (step-stops σ s at string-stops is (omega (arith, ran .onward)))
+        step-stops σ s at string-stops is q (omega (arith, ran .onward))
 
     pub more-step : {end : ℕ} → 0 < n → end ≡ j + n → record { kind = 10; end = end } ≡ stepOf at (lexBy σ run (drop at s))
-    more-step h l = step-stops σ s at string-stops (ap kindOf (bytes-of n) ∙ kind-more (take n (drop j s)) (scanned-idchars c) (str-lenient (d .is)) (λ z. rest-some σ n (drop j s) e h z)) (omega (arith, ran .onward))
+    more-step h l = step-stops σ s at string-stops (ap kindOf (bytes-of n) ∙ kind-more (take n (drop j s)) (scanned-idchars c) (str-lenient (d .is)) (λ z. rest-some σ n (drop j s) e h z)) refl (omega (arith, ran .onward))

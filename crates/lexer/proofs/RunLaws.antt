@@ -1,22 +1,20 @@
 -- Runs of idchars and strings, passed part by part. Assumes nothing.
-use Prim.Native.Nat.{ℕ, zero, suc, _+_, _-_, _≤_, _<_}
-use mathlib.Core.Path.{_≡_, refl, sym, ap, _∙_, subst}
-use mathlib.Core.Bool.{Bool, true, false}
+use Prim.Native.Nat.{ℕ, suc, _+_, _-_, _≤_, _<_}
+use mathlib.Core.Path.{_≡_, refl, sym, ap, _∙_}
+use mathlib.Core.Bool.{true, false}
 use mathlib.Core.List.{List, [], _∷_, _++_, append-nil, append-assoc}
 use native.Mathlib.Omega.{arith}
-use native.Mathlib.Numerals.{add-one}
-use lib.Dec.{eqb}
 use lib.ListN.{length, getD, take, drop, length-append, length-drop}
-use lib.Seq.{slice, length-slice, slice-empty, drop-cons, drop-drop}
+use lib.Seq.{slice, length-slice, slice-empty, drop-cons, drop-drop, getD-drop}
 use borrow.Author.Tests.{eqb-true, eqb-false}
 use Rattle.wat.specs.declared.LexError.{LexError}
 use Rattle.wat.specs.Bytes.{byte, Each}
-use Rattle.wat.specs.Settings.{Settings, lenient}
+use Rattle.wat.specs.Settings.{Settings}
 use Rattle.wat.specs.Utf8.{WellFormed}
 use Rattle.wat.specs.Chars.{idchar}
-use Rattle.wat.specs.Strings.{HexNum, Elem, Elems, Str}
+use Rattle.wat.specs.Strings.{Str}
 use Rattle.wat.specs.Tokens.{Run}
-use Rattle.wat.specs.RunModel.{Body, closed, failed, body, Walk, stops, fails, on, strung, walk}
+use Rattle.wat.specs.RunModel.{Body, closed, failed, body, Walk, stops, fails, on, walk}
 use Rattle.wat.specs.LexModel.{count, next}
 use Rattle.wat.proofs.Scalars.{after-ascii}
 use Rattle.wat.proofs.Hexnums.{differ}
@@ -24,6 +22,7 @@ use Rattle.wat.proofs.Runs.{Bodies, is-closed, is-failed, bodies, Stopped, ende
 use Rattle.wat.proofs.Shapes.{both, word-run}
 use Rattle.wat.proofs.Total.{count-take}
 use Rattle.classes.specs.Scan.{Scanned}
+use Rattle.classes.proofs.ScanLaws.{count-next}
 use Rattle.lexer.proofs.SliceLaws.{slice-split, slice-take, slice-join, part-within, part-is, part-rest}
 
 -- the walk of all that is left
@@ -95,19 +94,6 @@ after-idchars : {w : List ℕ} (u : List ℕ) → Each idchar true w → WellFor
 after-idchars u Each.none g = g
 after-idchars u (Each.next {x = x} {t = t} e r) g = after-idchars u r (after-ascii x (t ++ u) (idchar-ascii x e) g)
 
--- a byte that is not counted does not pass
-count-end : (f : ℕ → Bool) (t : List ℕ) (x : ℕ) (u : List ℕ) → drop (count f true t) t ≡ x ∷ u → f x ≡ false
-unfolding count
-count-end f [] x u e = differ (cc)
-count-end f (y ∷ t) x u e = go (f y) refl e (count-end f t x u)
-  where
-    go : (b : Bool) → f y ≡ b → drop (count f true (y ∷ t)) (y ∷ t) ≡ x ∷ u → (drop (count f true t) t ≡ x ∷ u → f x ≡ false) → f x ≡ false
-    go true p e ih = ih (rw (p, count) at e)
-    go false p e ih =
-        let z : y ∷ t ≡ x ∷ u = rw (p, count) at e in
-        let q : y ≡ x = cc in
-        rw q at p
-
 module _ {s : List ℕ} {at end : ℕ} (c : Scanned idchar true s at end) where
   onward : at ≤ end
   onward = omega (arith, c .end)
@@ -134,8 +120,12 @@ module _ {s : List ℕ} {at end : ℕ} (c : Scanned idchar true s at end) where
       go : (t : List ℕ) → drop end s ≡ t → Stopped (drop end s)
       go [] e = rw e ended
       go (x ∷ u) e =
-          let d : drop (count idchar true (drop at s)) (drop at s) ≡ x ∷ u = drop-drop (count idchar true (drop at s)) at s ∙ ap (λ (i : ℕ). drop i s) (sym (c .end)) ∙ e in
-          rw e (halted (count-end idchar (drop at s) x u d) (eqb-false x (byte "\"") (sym (ap (next (byte "\"")) e) ∙ n)))
+          let h : end < length s = omega (arith, length-drop end s, ap length e) in
+          let d : getD s end 0 ∷ drop (suc end) s ≡ x ∷ u = sym (drop-cons s end 0 h) ∙ e in
+          let q : getD s end 0 ≡ x = cc in
+          let f : idchar (getD (drop at s) (count idchar true (drop at s)) 0) ≡ false = count-next idchar true (drop at s) (omega (arith, length-drop at s, c .end)) in
+          let i : idchar x ≡ false = rw (getD-drop at s (count idchar true (drop at s)) 0, ← c .end, q) at f in
+          rw e (halted i (eqb-false x (byte "\"") (sym (ap (next (byte "\"")) e) ∙ n)))
 
 -- ---- strings
 

@@ -1,11 +1,10 @@
 -- The code's walk over a run: where it stops and how it fails. Assumes nothing.
-use Prim.Native.Nat.{ℕ, suc, _+_, _-_, _≤_, _<_}
-use mathlib.Core.Path.{_≡_, refl, sym, ap, _∙_}
-use mathlib.Core.List.{List, _∷_}
+use Prim.Native.Nat.{ℕ, suc, _+_, _-_}
+use mathlib.Core.Path.{_≡_, refl, ap, _∙_}
+use mathlib.Core.List.{List}
 use native.Mathlib.Omega.{arith}
 use lib.ListN.{length, drop}
 use Rattle.wat.specs.declared.LexError.{LexError}
-use Rattle.wat.specs.Bytes.{byte}
 use Rattle.wat.specs.Settings.{Settings}
 use Rattle.wat.specs.Tokens.{Run}
 use Rattle.wat.specs.RunModel as model
@@ -15,7 +14,7 @@ use Rattle.lexer.specs.declared.Fault.{Fault}
 use Rattle.lexer.specs.declared.Walk.{Walk}
 use Rattle.lexer.specs.declared.Walk.the-variants.{Stops, Fails}
 use Rattle.lexer.specs.Steps.{faultAt, walkOf}
-use Rattle.lexer.proofs.RunLaws.{walked, bodied, Ran, ran-walk, string-failed}
+use Rattle.lexer.proofs.RunLaws.{walked, Ran, ran-walk}
 
 module _ (σ : Settings) (s : List ℕ) (at i : ℕ) (r : Ran σ s at i) where
   pub walk-stops : Stopped (drop i s) → Stops i ≡ walkOf at (walked σ (drop at s))

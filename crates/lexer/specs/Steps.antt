@@ -33,10 +33,8 @@ abbrev pub faultAt : ℕ → LexError → ℕ → ℕ → Fault
 faultAt at e p n = record { error = e; place = at + p; after = at + n }
 
 -- where the answer is an error, f is that error
-abbrev pub Faults : ℕ → Answer → Fault → Type 0
-Faults at answer.End f = Unit {0}
-Faults at (answer.Token k n) f = Unit {0}
-Faults at (answer.Fault e p n) f = f ≡ faultAt at e p n
+pub record Faults (at : ℕ) (a : Answer) (f : Fault) : Type 0 where
+  pub is : (e : LexError) (p n : ℕ) → a ≡ answer.Fault e p n → f ≡ faultAt at e p n
 
 abbrev pub walkOf : ℕ → model.Walk → Walk
 walkOf at (model.stops n) = Stops (at + n)

@@ -5,29 +5,34 @@ ghost use Prim.Native.Nat.{ℕ, suc, _+_, _-_, _≤_, _<_};
 ghost use lib.ListN.{length, getD, drop};
 ghost use lib.Seq.{slice};
 ghost use Rattle.wat.specs.declared.Number.the-variants.{Neither};
+ghost use Rattle.wat.specs.Settings.{Settings};
 ghost use Rattle.wat.specs.Utf8.{WellFormed};
 ghost use Rattle.wat.specs.Cases.{kindNumber};
 ghost use Rattle.wat.specs.NumberModel.{classify};
+ghost use Rattle.wat.specs.StringModel.{peek};
 ghost use Rattle.wat.specs.RunModel as run;
 ghost use Rattle.wat.specs.LexModel.{next, wordKind};
 ghost use Rattle.wat.specs.LexModel as model;
+ghost use Rattle.wat.specs.Calls.{Text, Stands, at as answer-at, Parses, Annotates};
 ghost use Rattle.wat.proofs.RunKinds.{quotedBy};
 ghost use Rattle.classes.specs.Table.{Classes};
-ghost use Rattle.lexer.specs.Steps.{nowhere, stepOf, walkOf, Stepped};
+ghost use Rattle.lexer.specs.Steps.{nowhere, stepOf, Stepped, faultAt, Faults, walkOf};
 ghost use Rattle.lexer.specs.Checks.{Sound, Meets};
 use classes::Family;
 use comments::Confusing;
+use kinds::Named;
 use strings::Body;
+use utf8::Decoded;
 use wat::Checked;
 use wat::FloatKind;
+use wat::Found;
 use wat::IntegerKind;
 use wat::LexError;
 use wat::Number;
+use wat::Parsed;
 use wat::Refusal;
 use wat::Token;
 use wat::TokenKind;
-
-mod strings;
 
 // A token by two numbers, which come back in registers: that of its kind, and the place past it. 0 and the place itself where no token is.
 pub struct Step {
@@ -100,8 +105,12 @@ fn named_kind(n: Number, b: u8) -> u16
             underscores,
             hex,
         })),
-        Number::Inf { negative } => kinds::kind_number(TokenKind::Float(FloatKind::Inf { negative })),
-        Number::Nan { negative } => kinds::kind_number(TokenKind::Float(FloatKind::Nan { negative })),
+        Number::Inf { negative } => kinds::kind_number(TokenKind::Float(FloatKind::Inf {
+            negative,
+        })),
+        Number::Nan { negative } => kinds::kind_number(TokenKind::Float(FloatKind::Nan {
+            negative,
+        })),
         Number::NanVal {
             negative,
             underscores,
@@ -264,7 +273,13 @@ fn semicolon(s: &[u8], at: usize, flag: bool) -> Step
             end: at + 1,
         };
     }
-    comment(s, at, comments::line_end(s, at), TokenKind::LINE_COMMENT, flag)
+    comment(
+        s,
+        at,
+        comments::line_end(s, at),
+        TokenKind::LINE_COMMENT,
+        flag,
+    )
 }
 
 // The token at a place before the end, by its first byte.
@@ -277,7 +292,7 @@ pub fn parse_kind(s: &[u8], at: usize, flag: bool, t: &[u8; 256]) -> Step
     match classes::begins(t, s[at]) {
         Family::Spaces => Step {
             kind: TokenKind::WHITESPACE,
-            end: classes::skip_ws(s, at, t),
+            end: classes::skip_ws(s, at + 1, t),
         },
         Family::OpenParen => open_paren(s, at, flag),
         Family::CloseParen => Step {
@@ -291,6 +306,102 @@ pub fn parse_kind(s: &[u8], at: usize, flag: bool, t: &[u8; 256]) -> Step
         Family::Semi => semicolon(s, at, flag),
         Family::Run => parse_reserved(s, at, flag, t),
         Family::Other => nothing(at),
+    }
+}
+
+// An error at a place, with nothing consumed.
+fn error_at(at: usize, error: LexError) -> Fault
+    ensures { λ r. ⌜ r ≡ faultAt at error 0 0 ⌝ }
+{
+    Fault {
+        error,
+        place: at,
+        after: at,
+    }
+}
+
+// Where no token is because of an error, its functions say which; where there is none, their answer is of no account.
+
+fn comment_fault(s: &[u8], at: usize, end: usize) -> Fault
+    requires { ⌜ (at ≤ end) × (end ≤ length (now s)) ⌝ }
+    requires { ⌜ WellFormed (drop at (now s)) ⌝ }
+    ensures { λ r. ⌜ ((σ : Settings) (k : TokenKind) → Faults at (model.comment σ k (end - at) (drop at (now (s .entry)))) r) ⌝ }
+{
+    match comments::check_confusing_comment(s, at, end) {
+        Confusing::Found {
+            at: place,
+            character,
+        } => Fault {
+            error: LexError::ConfusingUnicode(character),
+            place,
+            after: end,
+        },
+        Confusing::Clear => error_at(at, LexError::UnexpectedEof),
+    }
+}
+
+fn block_fault(s: &[u8], at: usize) -> Fault
+    requires { ⌜ at < length (now s) ⌝ }
+    requires { ⌜ WellFormed (drop at (now s)) ⌝ }
+    ensures { λ r. ⌜ ((σ : Settings) → Faults at (model.lexBy σ model.open-paren (drop at (now (s .entry)))) r) ⌝ }
+{
+    if !is_at(s, at + 1, b';') {
+        return error_at(at, LexError::UnexpectedEof);
+    }
+    let end = comments::block_end(s, at + 2);
+    if end == 0 {
+        return error_at(at, LexError::DanglingBlockComment);
+    }
+    comment_fault(s, at, end)
+}
+
+fn line_fault(s: &[u8], at: usize) -> Fault
+    requires { ⌜ at < length (now s) ⌝ }
+    requires { ⌜ WellFormed (drop at (now s)) ⌝ }
+    ensures { λ r. ⌜ ((σ : Settings) → Faults at (model.lexBy σ model.semi (drop at (now (s .entry)))) r) ⌝ }
+{
+    if !is_at(s, at + 1, b';') {
+        return error_at(at, LexError::UnexpectedEof);
+    }
+    comment_fault(s, at, comments::line_end(s, at))
+}
+
+fn run_fault(s: &[u8], at: usize, flag: bool, t: &[u8; 256]) -> Fault
+    requires { ⌜ at ≤ length (now s) ⌝ }
+    requires { ⌜ WellFormed (drop at (now s)) ⌝ }
+    requires { ⌜ Classes (now t) ⌝ }
+    ensures { λ r. ⌜ Faults at (model.lexBy (record { confusing = «flag» }) model.run (drop at (now (s .entry)))) r ⌝ }
+{
+    match parse_run(s, at, flag, t) {
+        Walk::Fails(fault) => fault,
+        Walk::Stops(_) => error_at(at, LexError::UnexpectedEof),
+    }
+}
+
+fn unexpected(s: &[u8], at: usize) -> Fault
+    ensures { λ r. ⌜ Faults at (model.otherBy (peek (drop at (now (s .entry))))) r ⌝ }
+{
+    match utf8::decode(s, at) {
+        Decoded::Char { value, len: _ } => error_at(at, LexError::Unexpected(value)),
+        Decoded::Nothing => error_at(at, LexError::UnexpectedEof),
+    }
+}
+
+// The error at a place before the end, where `parse_kind` finds no token.
+pub fn fault_at(s: &[u8], at: usize, flag: bool, t: &[u8; 256]) -> Fault
+    requires { ⌜ at < length (now s) ⌝ }
+    requires { ⌜ WellFormed (drop at (now s)) ⌝ }
+    requires { ⌜ Classes (now t) ⌝ }
+    ensures { λ r. ⌜ Faults at (model.lex (record { confusing = «flag» }) (drop at (now (s .entry)))) r ⌝ }
+{
+    match classes::begins(t, s[at]) {
+        Family::OpenParen => block_fault(s, at),
+        Family::Semi => line_fault(s, at),
+        Family::Run => run_fault(s, at, flag, t),
+        Family::Other => unexpected(s, at),
+        Family::Spaces => error_at(at, LexError::UnexpectedEof),
+        Family::CloseParen => error_at(at, LexError::UnexpectedEof),
+        Family::Single => error_at(at, LexError::UnexpectedEof),
     }
 }
 
@@ -340,5 +451,88 @@ pub fn check(text: &[u8], pos: usize) -> Met
                 place: pos,
             }
         }
+    }
+}
+
+// The answer at a position that stands, counted from the text's start.
+fn parse_at(text: &[u8], flag: bool, pos: usize) -> Parsed
+    requires { ⌜ Stands (now text) pos ⌝ }
+    ensures { λ r. ⌜ r ≡ answer-at pos (model.lex (record { confusing = «flag» }) (drop pos (now (text .entry)))) ⌝ }
+{
+    if pos == text.len() {
+        return Parsed {
+            found: Found::Nothing,
+            position: pos,
+        };
+    }
+    let t = classes::table();
+    let step = parse_kind(text, pos, flag, &t);
+    let number = step.kind;
+    let end = step.end;
+    match kinds::kind_of(number) {
+        Named::Kind(kind) => Parsed {
+            found: Found::Token(Token {
+                kind,
+                offset: pos,
+                len: (end - pos) as u32,
+            }),
+            position: end,
+        },
+        Named::NoKind => {
+            let fault = fault_at(text, pos, flag, &t);
+            let error = fault.error;
+            Parsed {
+                found: Found::Refused {
+                    refusal: Refusal::Lexical(error),
+                    place: fault.place,
+                },
+                position: fault.after,
+            }
+        }
+    }
+}
+
+// One token at a position.
+pub fn parse(text: &[u8], flag: bool, pos: usize) -> Parsed
+    ensures { λ r. ⌜ Parses (record { confusing = «flag» }) (now (text .entry)) pos r ⌝ }
+{
+    match check(text, pos) {
+        Met::Turned { refusal, place } => Parsed {
+            found: Found::Refused { refusal, place },
+            position: pos,
+        },
+        Met::Stands => parse_at(text, flag, pos),
+    }
+}
+
+fn annotation_at(text: &[u8], flag: bool, pos: usize) -> Found
+    requires { ⌜ Text (now text) ⌝ }
+    ensures { λ r. ⌜ Annotates (record { confusing = «flag» }) (now (text .entry)) pos r ⌝ }
+{
+    if !is_at(text, pos, b'@') {
+        return Found::Nothing;
+    }
+    let parsed = parse_at(text, flag, pos);
+    let found = parsed.found;
+    match found {
+        Found::Nothing => Found::Nothing,
+        Found::Refused { refusal, place } => Found::Refused { refusal, place },
+        Found::Token(token) => {
+            let kind = token.kind;
+            if kinds::same_kind(kind, TokenKind::Annotation) {
+                return Found::Token(token);
+            }
+            Found::Nothing
+        }
+    }
+}
+
+// The annotation at a position, if one is there. A position at which no `@` stands is not looked at further.
+pub fn annotation(text: &[u8], flag: bool, pos: usize) -> Found
+    ensures { λ r. ⌜ Annotates (record { confusing = «flag» }) (now (text .entry)) pos r ⌝ }
+{
+    match check_text(text, pos) {
+        Met::Turned { refusal, place } => Found::Refused { refusal, place },
+        Met::Stands => annotation_at(text, flag, pos),
     }
 }

@@ -1,5 +1,4 @@
 -- After the text the position is checked. Assumes nothing.
-use mathlib.Core.Path.{sym, _∙_}
 use native.Mathlib.Omega.{arith}
 use Rattle.wat.specs.Calls as calls
 use Rattle.wat.proofs.Shapes.{both}

@@ -1,38 +1,41 @@
+-- With the flag on a comment stands; else what is found in it decides. Assumes nothing.
+use mathlib.Core.Path.{ap, _∙_}
+use native.Mathlib.Omega.{arith}
+use Rattle.lexer.proofs.StepLaws.{step-token, step-fault}
+use Rattle.lexer.proofs.CommentLaws.{foundAs, comment-on, comment-off}
 use borrow.Author.Needs.{needs}
 use Rattle.lexer.proofs.comment.Statement.{statement}
 use Rattle.lexer.proofs.comment.Tie as tie
-use Rattle.lexer.proofs.comment.Reads as reads
-use Rattle.lexer.proofs.comment.Lts as lts
-use Rattle.lexer.proofs.comments.check_confusing_comment.Reads as check-confusing-comment-reads
-use Rattle.lexer.proofs.nothing.Reads as nothing-reads
 
--- src/lib.rt:226:9
 returns : tie.Need-returns
-returns c = ?
+returns c =
+    let a = c .before .before .args in
+    λ k e. step-token (a .at) (comment-on k (a .s .now) (a .at) (a .end) (a .flag) (c .if1 .taken)) e (omega arith)
 
--- src/lib.rt:228:11
 check-confusing-comment-requires : tie.Need-check-confusing-comment-requires
 check-confusing-comment-requires c κs = search needs
 
--- src/lib.rt:229:29
 enum-told : tie.Need-enum-told
 enum-told c = search needs
 
--- src/lib.rt:233:14
 enum-told-2 : tie.Need-enum-told-2
 enum-told-2 c = search needs
 
--- src/lib.rt:233:14
 nothing-requires : tie.Need-nothing-requires
 nothing-requires c κs = search needs
 
--- src/lib.rt:220:1
 returns-2 : tie.Need-returns-2
-returns-2 c = ?
+returns-2 c =
+    let a = c .before .before .before .before .before .args in
+    λ k e. step-token (a .at) (comment-off k (a .s .now) (a .at) (a .end) (a .flag) (c .before .before .before .if1 .left) (omega arith) (c .before .before .check-confusing-comment .ensures)
+    ∙ ap (foundAs k (a .at) (a .end)) (c .enum-told .given .1)) e (omega arith)
 
--- src/lib.rt:220:1
 returns-3 : tie.Need-returns-3
-returns-3 c = ?
+returns-3 c =
+    let a = c .before .before .before .before .before .before .args in
+    λ k e. c .nothing .ensures
+    ∙ step-fault (a .at) (comment-off k (a .s .now) (a .at) (a .end) (a .flag) (c .before .before .before .before .if1 .left) (omega arith) (c .before .before .before .check-confusing-comment .ensures)
+    ∙ ap (foundAs k (a .at) (a .end)) (c .before .enum-told2 .given .1))
 
 pub comment-spec : {M : Type 1} → statement M
 comment-spec =

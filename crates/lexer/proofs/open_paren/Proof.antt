@@ -1,52 +1,55 @@
+-- `(` alone, an open comment, or a whole one. Assumes nothing.
+use mathlib.Core.Path.{refl, sym, ap, _∙_}
+use native.Mathlib.Omega.{arith}
+use borrow.Author.Tests.{not-true, not-false}
+use Rattle.wat.specs.declared.TokenKind.the-variants as kind
+use Rattle.lexer.specs.Steps.{stepOf}
+use Rattle.lexer.proofs.StepLaws.{step-token, step-fault}
+use Rattle.lexer.proofs.CommentLaws.{open-alone, open-within, block-open, block-onward, block-closed}
 use borrow.Author.Needs.{needs}
 use Rattle.lexer.proofs.open_paren.Statement.{statement}
 use Rattle.lexer.proofs.open_paren.Tie as tie
-use Rattle.lexer.proofs.open_paren.Reads as reads
-use Rattle.lexer.proofs.open_paren.Lts as lts
-use Rattle.lexer.proofs.comment.Reads as comment-reads
-use Rattle.lexer.proofs.comments.block_end.Reads as block-end-reads
-use Rattle.lexer.proofs.is_at.Reads as is-at-reads
-use Rattle.lexer.proofs.nothing.Reads as nothing-reads
 
--- src/lib.rt:243:18
 add-is-at : tie.Need-add-is-at
 add-is-at c = search needs
 
--- src/lib.rt:243:9
 is-at-requires : tie.Need-is-at-requires
 is-at-requires c κs = search needs
 
--- src/lib.rt:246:18
 add-t8 : tie.Need-add-t8
 add-t8 c = search needs
 
--- src/lib.rt:244:9
 returns : tie.Need-returns
-returns c = ?
+returns c =
+    let a = c .before .before .before .args in
+    step-token (a .at) (open-alone (record { confusing = a .flag }) (a .s .now) (a .at) (sym (c .before .is-at .ensures) ∙ not-true _ (c .if1 .taken))) refl refl
 
--- src/lib.rt:249:38
 add-block-end : tie.Need-add-block-end
 add-block-end c = search needs
 
--- src/lib.rt:249:9
 block-end-requires : tie.Need-block-end-requires
-block-end-requires c κs = ?
+block-end-requires c κs = open-within _ _ (sym (c .before .is-at .ensures) ∙ not-false _ (c .if1 .left))
 
--- src/lib.rt:251:9
 nothing-requires : tie.Need-nothing-requires
 nothing-requires c κs = search needs
 
--- src/lib.rt:251:9
 returns-2 : tie.Need-returns-2
-returns-2 c = ?
+returns-2 c =
+    let a = c .before .before .before .before .before .before .args in
+    let n = sym (c .before .before .before .before .is-at .ensures) ∙ not-false _ (c .before .before .before .if1 .left) in
+    c .nothing .ensures ∙ step-fault (a .at) (block-open (record { confusing = a .flag }) (a .s .now) (a .at) n (c .before .before .block-end .ensures) (c .before .if2 .taken))
 
--- src/lib.rt:253:5
 comment-requires : tie.Need-comment-requires
-comment-requires c κs = ?
+comment-requires c κs =
+    let e = c .before .block-end .ensures in
+    ((let l = block-onward _ _ e (c .if2 .left) in omega arith, e .within), c .before .before .before .before .before .pre .1)
 
--- src/lib.rt:238:1
 returns-3 : tie.Need-returns-3
-returns-3 c = ?
+returns-3 c =
+    let a = c .before .before .before .before .before .before .args in
+    let n = sym (c .before .before .before .before .is-at .ensures) ∙ not-false _ (c .before .before .before .if1 .left) in
+    c .comment .ensures kind.BlockComment refl
+    ∙ ap (stepOf (a .at)) (sym (block-closed (record { confusing = a .flag }) (a .s .now) (a .at) n (c .before .before .block-end .ensures) (c .before .if2 .left)))
 
 pub open-paren-spec : {M : Type 1} → statement M
 open-paren-spec =

@@ -19,7 +19,7 @@ named-kind-requires : tie.Need-named-kind-requires
 named-kind-requires c κs = search needs
 
 returns : tie.Need-returns
-returns c = 
+returns c =
     let a = c .before .before .before .before .args in
     c .named-kind .ensures ∙ ap (λ (m : Number). kindNumber (wordKind m (getD (a .s .now) (a .at) 0))) (classified (c .before .before .classify-number .ensures))
 
