@@ -1,0 +1,34 @@
+-- What is found in the comment is the error. Assumes nothing.
+use Rattle.lexer.proofs.FaultLaws.{comment-clear, comment-found}
+use borrow.Author.Needs.{needs}
+use Rattle.lexer.proofs.comment_fault.Statement.{statement}
+use Rattle.lexer.proofs.comment_fault.Tie as tie
+
+check-confusing-comment-requires : tie.Need-check-confusing-comment-requires
+check-confusing-comment-requires c κs = search needs
+
+enum-known-place : tie.Need-enum-known-place
+enum-known-place c = search needs
+
+enum-told : tie.Need-enum-told
+enum-told c = search needs
+
+error-at-requires : tie.Need-error-at-requires
+error-at-requires c κs = search needs
+
+returns : tie.Need-returns
+returns c = comment-found _ _ _ (c .before .before .before .before .before .pre .0 .0) (c .before .before .before .check-confusing-comment .ensures) (c .before .place .given .1)
+
+returns-2 : tie.Need-returns-2
+returns-2 c = comment-clear _ _ _ (c .before .before .before .before .before .pre .0 .0) (c .before .before .before .check-confusing-comment .ensures) (c .before .enum-told .given .1)
+
+pub comment-fault-spec : {M : Type 1} → statement M
+comment-fault-spec =
+    tie.close
+    (tie.spec
+    check-confusing-comment-requires
+    enum-known-place
+    enum-told
+    error-at-requires
+    returns
+    returns-2)

@@ -1,0 +1,49 @@
+-- The character at the place is the unexpected one. Assumes nothing.
+use Prim.Native.Nat.{ℕ}
+use mathlib.Core.Path.{ap, subst, _∙_}
+use Rattle.wat.specs.declared.LexError.the-variants.{Unexpected}
+use Rattle.wat.specs.LexModel.{otherBy}
+use Rattle.utf8.specs.Decoding.{Decodes}
+use Rattle.lexer.specs.Steps.{faultAt}
+use Rattle.lexer.proofs.FaultLaws.{fault-end, fault-is}
+use borrow.Author.Needs.{needs}
+use Rattle.lexer.proofs.unexpected.Statement.{statement}
+use Rattle.lexer.proofs.unexpected.Tie as tie
+
+decode-requires : tie.Need-decode-requires
+decode-requires c κs = search needs
+
+enum-known-value : tie.Need-enum-known-value
+enum-known-value c = search needs
+
+error-at-requires : tie.Need-error-at-requires
+error-at-requires c κs = search needs
+
+enum-told : tie.Need-enum-told
+enum-told c = search needs
+
+error-at-requires-2 : tie.Need-error-at-requires-2
+error-at-requires-2 c κs = search needs
+
+returns : tie.Need-returns
+returns c =
+    let a = c .before .before .before .before .before .before .args in
+    let d = subst (Decodes (a .s .now) (a .at)) (c .before .before .value .given .1) (c .before .before .before .before .decode .ensures) in
+    fault-is (ap otherBy (d .peeked)) (c .error-at .ensures ∙ ap (λ (v : ℕ). faultAt (a .at) (Unexpected v) 0 0) (d .value))
+
+returns-2 : tie.Need-returns-2
+returns-2 c =
+    let a = c .before .before .before .before .before .args in
+    fault-end (ap otherBy (subst (Decodes (a .s .now) (a .at)) (c .before .enum-told .given .1) (c .before .before .before .decode .ensures)))
+
+pub unexpected-spec : {M : Type 1} → statement M
+unexpected-spec =
+    tie.close
+    (tie.spec
+    decode-requires
+    enum-known-value
+    error-at-requires
+    enum-told
+    error-at-requires-2
+    returns
+    returns-2)
