@@ -14,12 +14,12 @@ use Rattle.wat.specs.Utf8Model.{pick}
 use Rattle.wat.specs.StringModel.{letterOf}
 use Rattle.wat.specs.Messages.{figure, Hexed, named, Shown}
 use Rattle.wat.proofs.Hexnums.{differ}
-use Rattle.wat.proofs.Scalars.{between-true, between-in, scalar-low}
+use Rattle.wat.proofs.Scalars.{between-true, scalar-low}
 use Rattle.wat.proofs.Elements.{AllPairs, pairs-listed}
 use Rattle.wat.proofs.OneMessage.{hexed-one, shown-one}
-use Rattle.messages.specs.MessageModel.{hexBy, hex, shown}
+use Rattle.messages.specs.MessageModel.{hexBy, hex, letterByte, shown}
 use Rattle.messages.specs.Writing.{Put}
-use Rattle.messages.proofs.BufferLaws.{put-one, put-put}
+use Rattle.messages.proofs.BufferLaws.{put-length, put-one, put-put}
 
 -- ---- digits
 
@@ -79,20 +79,33 @@ letter-listed (p ∷ t) c l e = go (eqb c (p .0)) refl e (letter-listed t c l)
         List·Memᴰ·head (λ i. (q i, sym r i))
     go false a e ih = List·Memᴰ·tail (ih e)
 
-letter-none : (t : List (ℕ × ℕ)) (c : ℕ) → AllPairs (λ x l. c ≡ x → ⊥) t → letterOf t c ≡ none
+pub letter-none : (t : List (ℕ × ℕ)) (c : ℕ) → AllPairs (λ x l. c ≡ x → ⊥) t → letterOf t c ≡ none
 letter-none [] c a = refl
 letter-none (p ∷ t) c a = rw (ne-eqb c (p .0) (a .0)) (letter-none t c (a .1))
 
 -- what holds of the five
 abbrev Named : ℕ → ℕ → Type 0
-Named c l = (letterOf named c ≡ some l) × (isScalar c ≡ true)
+Named c l = (letterOf named c ≡ some l) × (isScalar c ≡ true) × (0 < l)
 
 five : AllPairs Named named
 unfolding named isScalar
-five = ((refl, refl), ((refl, refl), ((refl, refl), ((refl, refl), ((refl, refl), tt)))))
+five =
+    ((refl, refl, omega arith), ((refl, refl, omega arith), ((refl, refl, omega arith), ((refl, refl, omega arith), ((refl, refl, omega arith), tt)))))
 
 is-named : {c l : ℕ} → List·Memᴰ (c, l) named → Named c l
 is-named m = pairs-listed Named named five m
+
+-- the letter's byte is 0 just where there is none
+pub unlettered : {b : ℕ} (c : ℕ) → b ≡ letterByte (letterOf named c) → b ≡ 0 → letterOf named c ≡ none
+unlettered {b} c e z = go (letterOf named c) refl e
+  where
+    go : (o : Option ℕ) → letterOf named c ≡ o → b ≡ letterByte o → letterOf named c ≡ none
+    go none q e = q
+    go (some l) q e = let k = is-named (letter-listed named c l q) .2 in absurd (omega arith)
+
+lettered : (o : Option ℕ) {b : ℕ} → b ≡ letterByte o → (b ≡ 0 → ⊥) → o ≡ some b
+lettered none e n = absurd (n e)
+lettered (some l) e n = cc
 
 -- ---- characters
 
@@ -100,30 +113,23 @@ shown-named : (c l : ℕ) → letterOf named c ≡ some l → shown c ≡ byte "
 unfolding shown
 shown-named c l e = rw (e, shown)
 
--- an escape of two bytes, written
-pub put-named : {old new : List ℕ} {at end c : ℕ} (k l : ℕ) → c ≡ k → letterOf named k ≡ some l → Put old new at (byte "\\" ∷ l ∷ []) end → Put old new at (shown c) end
-put-named k l e n p = rw (e, shown-named k l n) p
-
-abbrev pub Unnamed : ℕ → Type 0
-Unnamed c = (c ≡ 0x09 → ⊥) × ((c ≡ 0x0D → ⊥) × ((c ≡ 0x0A → ⊥) × ((c ≡ 0x5C → ⊥) × (c ≡ 0x27 → ⊥))))
-
-unnamed : (c : ℕ) → Unnamed c → letterOf named c ≡ none
-unfolding named
-unnamed c n = letter-none named c (n .0, (n .1 .0, (n .1 .1 .0, (n .1 .1 .1 .0, (n .1 .1 .1 .1, tt)))))
-
-shown-raw : (c : ℕ) → letterOf named c ≡ none → between 0x20 0x7E c ≡ true → shown c ≡ c ∷ []
+pub shown-raw : (c : ℕ) → letterOf named c ≡ none → between 0x20 0x7E c ≡ true → shown c ≡ c ∷ []
 unfolding shown
 shown-raw c e h = rw (e, h, shown)
 
-shown-hex : (c : ℕ) → letterOf named c ≡ none → between 0x20 0x7E c ≡ false → shown c ≡ bytes "\\u{" ++ (hex c ++ bytes "}")
+pub shown-hex : (c : ℕ) → letterOf named c ≡ none → between 0x20 0x7E c ≡ false → shown c ≡ bytes "\\u{" ++ (hex c ++ bytes "}")
 unfolding shown
 shown-hex c e h = rw (e, h, shown)
 
-pub shown-itself : (c : ℕ) → Unnamed c → 0x20 ≤ c → c ≤ 0x7E → shown c ≡ c ∷ []
-shown-itself c n l h = shown-raw c (unnamed c n) (between-in 0x20 0x7E c l h)
-
-pub shown-number : (c : ℕ) → Unnamed c → between 0x20 0x7E c ≡ false → shown c ≡ bytes "\\u{" ++ (hex c ++ bytes "}")
-shown-number c n h = shown-hex c (unnamed c n) h
+-- an escape of two bytes, written
+pub put-letter :
+    (old : List ℕ) (at c b : ℕ) → b ≡ letterByte (letterOf named c) → (b ≡ 0 → ⊥) → at + 2 ≤ length old
+    → Put old (set (set old at (byte "\\")) (at + 1) b) at (shown c) (at + 2)
+put-letter old at c b e n h =
+    let p = put-one old at (byte "\\") (omega arith) in
+    let q = put-one (set old at (byte "\\")) (at + 1) b (omega (arith, put-length p)) in
+    let z : at + 1 + 1 ≡ at + 2 = omega arith in
+    rw (shown-named c b (lettered (letterOf named c) e n)) (rw z at (put-put p q))
 
 -- the ways in which a character is shown
 data Ways (c : ℕ) : List ℕ → Type 0 where
