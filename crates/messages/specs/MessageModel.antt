@@ -1,4 +1,4 @@
--- Parts of messages by functions that compute. `proofs/MessageLaws` shows that they say what `Messages` of wat asks.
+-- Parts of messages, and which errors have one, by functions that compute. `proofs/` shows that they say what `Messages` of wat asks.
 use Prim.Native.Nat.{ℕ, zero, suc, _/_, _%_}
 use mathlib.Core.Bool.{Bool, true, false, _&&_}
 use mathlib.Core.List.{List, [], _∷_, _++_}

@@ -1,4 +1,4 @@
-// The message of an error: the Rust's `Display` of `LexError`, into a lent buffer. What it says, is said in wat's Messages.
+// The message of an error: the Rust's `Display` of `LexError`, into a lent buffer, as wat's Messages defines it.
 ghost use Prim.Native.Nat.{_+_, _≤_, _<_};
 ghost use mathlib.Core.Path.{_≡_};
 ghost use mathlib.Core.List.{_++_};

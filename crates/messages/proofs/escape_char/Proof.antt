@@ -7,7 +7,8 @@ use lib.ListN.{length-set}
 use Rattle.wat.specs.Bytes.{between}
 use Rattle.wat.proofs.Scalars.{between-in, between-under, between-over}
 use Rattle.messages.proofs.BufferLaws.{put-length, put-one, put-put}
-use Rattle.messages.proofs.CharLaws.{hex-fits, unlettered, put-letter, shown-raw, shown-hex}
+use Rattle.messages.proofs.HexLaws.{hex-fits}
+use Rattle.messages.proofs.CharLaws.{unlettered, put-letter, shown-raw, shown-hex}
 use Rattle.messages.proofs.escape_char.Statement.{statement}
 use Rattle.messages.proofs.escape_char.Tie as tie
 
