@@ -14,7 +14,8 @@ use Rattle.wat.proofs.Shapes.{both}
 use Rattle.wat.proofs.Scalars.{scalar-low, scalar-split}
 use Rattle.wat.proofs.Elements.{has-every}
 use Rattle.messages.specs.MessageModel.{hexBy, hex, shown, tellable}
-use Rattle.messages.proofs.CharLaws.{hexed, hexed-fits, shown-right, shown-scalar, shown-is, shown-fits}
+use Rattle.messages.proofs.HexLaws.{hexed, hexed-fits}
+use Rattle.messages.proofs.CharLaws.{shown-right, shown-scalar, shown-is, shown-fits}
 
 -- ---- which errors have a message
 

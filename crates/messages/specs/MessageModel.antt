@@ -1,8 +1,8 @@
--- Parts of messages by functions that compute. `proofs/MessageLaws` shows that they say what `Messages` of wat asks.
+-- Parts of messages, and which errors have one, by functions that compute. `proofs/` shows that they say what `Messages` of wat asks.
 use Prim.Native.Nat.{ℕ, zero, suc, _/_, _%_}
 use mathlib.Core.Bool.{Bool, true, false, _&&_}
 use mathlib.Core.List.{List, [], _∷_, _++_}
-use mathlib.Core.Option.{none, some}
+use mathlib.Core.Option.{Option, none, some}
 use lib.Dec.{ltb}
 use Rattle.wat.specs.declared.LexError.{LexError}
 use Rattle.wat.specs.declared.LexError.the-variants.{DanglingBlockComment, Unexpected, InvalidStringElement, InvalidStringEscape, InvalidHexDigit, Expected, UnexpectedEof, NumberTooBig, InvalidUnicodeValue, LoneUnderscore, ConfusingUnicode, InvalidUtf8Id, EmptyId, EmptyAnnotation}
@@ -17,6 +17,11 @@ hexBy (suc k) n = elim (ltb n 16) [ true ↦ figure n ∷ [] | false ↦ hexBy k
 
 unfoldable pub hex : ℕ → List ℕ
 hex n = hexBy n n
+
+-- a letter that may be missing, as a byte
+abbrev pub letterByte : Option ℕ → ℕ
+letterByte (some l) = l
+letterByte none = 0
 
 -- a character as a message shows it
 unfoldable pub shown : ℕ → List ℕ

@@ -1,12 +1,13 @@
-// The message of an error: the Rust's `Display` of `LexError`, into a lent buffer. What it says, is said in wat's Messages.
+// The message of an error: the Rust's `Display` of `LexError`, into a lent buffer, as wat's Messages defines it.
 ghost use Prim.Native.Nat.{_+_, _≤_, _<_};
 ghost use mathlib.Core.Path.{_≡_};
 ghost use mathlib.Core.List.{_++_};
 ghost use lib.ListN.{length};
 ghost use Rattle.wat.specs.Bytes.{bytes};
 ghost use Rattle.wat.specs.Chars.{isScalar, confusing};
-ghost use Rattle.wat.specs.Messages.{figure, Tells};
-ghost use Rattle.messages.specs.MessageModel.{hex, shown, tellable};
+ghost use Rattle.wat.specs.StringModel.{letterOf};
+ghost use Rattle.wat.specs.Messages.{figure, named, Tells};
+ghost use Rattle.messages.specs.MessageModel.{hex, letterByte, shown, tellable};
 ghost use Rattle.messages.specs.Writing.{Put, Formatted};
 use wat::LexError;
 use wat::Message;
@@ -48,17 +49,32 @@ fn lower_hex(out: &mut [u8], at: usize, n: u32) -> usize
     end + 1
 }
 
+// The letter that stands for a character behind a backslash; 0 where it has none.
+fn escape_letter(c: u32) -> u8
+    ensures { λ r. ⌜ r ≡ letterByte (letterOf named c) ⌝ }
+{
+    match c {
+        0x09 => b't',
+        0x0D => b'r',
+        0x0A => b'n',
+        0x5C => b'\\',
+        0x27 => b'\'',
+        _ => 0,
+    }
+}
+
 // A character as a message shows it.
 fn escape_char(out: &mut [u8], at: usize, c: u32) -> usize
     requires { ⌜ at + 12 ≤ length (now out) ⌝ }
     ensures { λ r. ⌜ Put (now (out .entry)) (now (out .exit)) at (shown c) r ⌝ }
 {
+    let letter = escape_letter(c);
+    if letter != 0 {
+        out[at] = b'\\';
+        out[at + 1] = letter;
+        return at + 2;
+    }
     match c {
-        0x09 => append(out, at, b"\\t"),
-        0x0D => append(out, at, b"\\r"),
-        0x0A => append(out, at, b"\\n"),
-        0x5C => append(out, at, b"\\\\"),
-        0x27 => append(out, at, b"\\'"),
         0x20..=0x7E => {
             out[at] = c as u8;
             at + 1

@@ -1,4 +1,4 @@
-// The place counter by value: document 01's lines and columns. What a move is, is said in wat's Places.
+// The place counter by value: document 01's lines and columns, as wat's Places defines them.
 ghost use mathlib.Core.Path.{_≡_};
 ghost use Rattle.wat.specs.Places.{new, Moves};
 use wat::Moved;

@@ -3,7 +3,7 @@ use Prim.Native.Nat.{ℕ, _<_, _/_}
 use native.Mathlib.Omega.{arith}
 use lib.ListN.{length-set}
 use mathlib.Core.Path.{_∙_}
-use Rattle.messages.proofs.CharLaws.{hex-fits, put-digit, put-digits}
+use Rattle.messages.proofs.HexLaws.{hex-fits, put-digit, put-digits}
 use Rattle.messages.proofs.BufferLaws.{put-length}
 use borrow.Fn.Kinds.{In}
 use borrow.Fn.PlainCycle.{Measures, is, falls, and}

@@ -4,7 +4,8 @@ use native.Mathlib.Omega.{arith}
 use Rattle.wat.specs.Messages.{Displays}
 use Rattle.messages.specs.MessageModel.{tellable}
 use Rattle.messages.proofs.BufferLaws.{put-length, put-put}
-use Rattle.messages.proofs.CharLaws.{hexed, shown-right}
+use Rattle.messages.proofs.HexLaws.{hexed}
+use Rattle.messages.proofs.CharLaws.{shown-right}
 use Rattle.messages.proofs.MessageLaws.{confusing-scalar, displays-expected}
 use Rattle.messages.proofs.AnswerLaws.{formatted}
 use Rattle.messages.proofs.fmt.Statement.{statement}

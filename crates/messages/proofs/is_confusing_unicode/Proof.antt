@@ -2,7 +2,7 @@
 use mathlib.Core.Path.{refl}
 use native.Mathlib.Omega.{arith}
 use Rattle.wat.specs.{Bytes.has, Chars.confusing}
-use Rattle.messages.proofs.CharLaws.{not-confusing, is-confusing}
+use Rattle.messages.proofs.ConfusingLaws.{not-confusing, is-confusing}
 use Rattle.messages.proofs.is_confusing_unicode.Statement.{statement}
 use Rattle.messages.proofs.is_confusing_unicode.Tie as tie
 

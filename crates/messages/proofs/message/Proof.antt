@@ -1,4 +1,4 @@
--- `messages::message` meets its contract. Assumes nothing.
+-- `messages::message` meets its contract: `k` is where the error is known to have a message. Assumes nothing.
 use mathlib.Core.Path.{refl, sym, _∙_}
 use mathlib.Core.List.{[], _∷_}
 use native.Mathlib.Omega.{arith}
@@ -29,7 +29,9 @@ fmt-requires : tie.Need-fmt-requires
 fmt-requires c κs = refl
 
 returns-3 : tie.Need-returns-3
-returns-3 c = cut (c .before .before .before .before .before .before .before .r .given .1) (sym (c .before .before .before .before .before .has-message .ensures) ∙ not-false _ (c .before .before .before .before .if1 .left)) (c .before .before .fmt .ensures) (c .if2 .taken)
+returns-3 c =
+    let k = c .before .before .before .before in
+    cut (k .before .before .before .r .given .1) (sym (k .before .has-message .ensures) ∙ not-false _ (k .if1 .left)) (c .before .before .fmt .ensures) (omega arith)
 
 array-share-prefix-text : tie.Need-array-share-prefix-text
 array-share-prefix-text c = omega (arith, c .before .before .before .fmt .ensures .fits)
@@ -44,7 +46,9 @@ same-length : tie.Need-same-length
 same-length c = put-length (c .before .before .append .ensures)
 
 returns-4 : tie.Need-returns-4
-returns-4 c = delivered (c .before .before .before .before .before .before .before .before .before .before .before .before .r .given .1) (sym (c .before .before .before .before .before .before .before .before .before .before .has-message .ensures) ∙ not-false _ (c .before .before .before .before .before .before .before .before .before .if1 .left)) (c .before .before .before .before .before .before .before .fmt .ensures) (c .before .before .before .before .before .if2 .left) (c .before .before .append .ensures)
+returns-4 c =
+    let k = c .before .before .before .before .before .before .before .before .before in
+    delivered (k .before .before .before .r .given .1) (sym (k .before .has-message .ensures) ∙ not-false _ (k .if1 .left)) (c .before .before .before .before .before .before .before .fmt .ensures) (omega arith) (c .before .before .append .ensures)
 
 pub message-spec : {M : Type 1} → statement M
 message-spec =

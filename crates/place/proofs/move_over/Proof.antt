@@ -20,7 +20,7 @@ shared-slice-read-if1 : tie.Need-shared-slice-read-if1 Inv-loop μ-loop
 shared-slice-read-if1 c = search needs
 
 returns : tie.Need-returns Inv-loop μ-loop
-returns c = feed-full (c .before .before .before .before .loop .inv) (omega arith) (c .before .if1 .taken) (c .if2 .taken)
+returns c = feed-full (c .before .before .before .before .loop .inv) (omega arith) (c .before .if1 .taken) (omega arith)
 
 add-line : tie.Need-add-line Inv-loop μ-loop
 add-line c = search needs
@@ -32,10 +32,10 @@ loop-less : tie.Need-loop-less Inv-loop μ-loop
 loop-less c = search needs
 
 loop-again : tie.Need-loop-again Inv-loop μ-loop
-loop-again c = walked-feed (c .before .before .before .before .loop .inv) (omega arith) (c .before .if1 .taken) (c .if2 .left)
+loop-again c = walked-feed (c .before .before .before .before .loop .inv) (omega arith) (c .before .if1 .taken) (omega arith)
 
 returns-2 : tie.Need-returns-2 Inv-loop μ-loop
-returns-2 c = byte-full (c .before .before .before .before .loop .inv) (omega arith) (c .before .if1 .left) (c .if3 .taken)
+returns-2 c = byte-full (c .before .before .before .before .loop .inv) (omega arith) (c .before .if1 .left) (omega arith)
 
 add-column : tie.Need-add-column Inv-loop μ-loop
 add-column c = search needs
@@ -47,7 +47,7 @@ loop-less-2 : tie.Need-loop-less-2 Inv-loop μ-loop
 loop-less-2 c = search needs
 
 loop-again-2 : tie.Need-loop-again-2 Inv-loop μ-loop
-loop-again-2 c = walked-byte (c .before .before .before .before .loop .inv) (omega arith) (c .before .if1 .left) (c .if3 .left)
+loop-again-2 c = walked-byte (c .before .before .before .before .loop .inv) (omega arith) (c .before .if1 .left) (omega arith)
 
 returns-3 : tie.Need-returns-3 Inv-loop μ-loop
 returns-3 c = walked-all (c .before .loop .inv) (omega arith)
