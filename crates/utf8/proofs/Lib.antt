@@ -6,4 +6,4 @@ mod ScalarLaws
 mod FollowLaws
 mod FollowingLaws
 mod ResumeLaws
-mod EncodeLaws
+pub mod EncodeLaws
