@@ -42,7 +42,7 @@ pub data ParsedWords (σ : Settings) (text : List ℕ) (pos : ℕ) : List ℕ �
   parsed : {r : Parsed} → Parses σ text pos r → ParsedWords σ text pos (foundWords (r .found) ++ (r .position ∷ []))
 
 pub data AnnotatedWords (σ : Settings) (text : List ℕ) (pos : ℕ) : List ℕ → Type 0 where
-  annotated : {f : Found} → Annotates σ text pos f → AnnotatedWords σ text pos (foundWords f)
+  annotated : (f : Found) → Annotates σ text pos f → AnnotatedWords σ text pos (foundWords f)
 
 pub data ListedWords (σ : Settings) (text : List ℕ) (start budget : ℕ) (list : List ℕ) : List ℕ → List ℕ → Type 0 where
   listed : {r : Listed} {l : List ℕ} → Listing σ text start budget list r l → ListedWords σ text start budget list (stopWords (r .stop) ++ (r .count ∷ r .position ∷ [])) l
