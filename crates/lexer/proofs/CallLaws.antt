@@ -26,10 +26,10 @@ use Rattle.kinds.specs.declared.Named.{Named}
 use Rattle.kinds.specs.declared.Named.the-variants.{Kind, NoKind}
 use Rattle.kinds.specs.Numbered.{Numbered, Same}
 use Rattle.kinds.proofs.NumberLaws.{injective}
-use Rattle.lexer.specs.declared.Step.{Step}
-use Rattle.lexer.specs.declared.Fault.{Fault}
-use Rattle.lexer.specs.Steps.{Stepped, Faults}
-use Rattle.lexer.proofs.StepLaws.{kind-some, token-of, fault-of}
+use Rattle.steps.specs.declared.Step.{Step}
+use Rattle.steps.specs.declared.Fault.{Fault}
+use Rattle.steps.specs.Steps.{Stepped, Faults}
+use Rattle.steps.proofs.StepLaws.{kind-some, token-of, fault-of}
 
 -- ---- one token
 

@@ -18,12 +18,12 @@ use Rattle.wat.proofs.Hexnums.{differ}
 use Rattle.comments.specs.declared.Confusing.{Confusing}
 use Rattle.comments.specs.declared.Confusing.the-variants.{Clear, Found}
 use Rattle.comments.specs.Confusing.{before, hiddenIn}
-use Rattle.lexer.specs.declared.Fault.{Fault}
-use Rattle.lexer.specs.declared.Walk.the-variants.{Stops, Fails}
-use Rattle.lexer.specs.Steps.{faultAt, Faults, walkOf}
-use Rattle.lexer.proofs.RunLaws.{walked}
-use Rattle.lexer.proofs.WalkLaws.{stops-of, fails-of}
-use Rattle.lexer.proofs.CommentLaws.{foundAs, comment-on, comment-off}
+use Rattle.steps.specs.declared.Fault.{Fault}
+use Rattle.steps.specs.declared.Walk.the-variants.{Stops, Fails}
+use Rattle.steps.specs.Steps.{faultAt, Faults, walkOf}
+use Rattle.steps.proofs.RunLaws.{walked}
+use Rattle.steps.proofs.WalkLaws.{stops-of, fails-of}
+use Rattle.steps.proofs.CommentLaws.{foundAs, comment-on, comment-off}
 
 module _ {at : ℕ} {a : Answer} {f : Fault} where
   pub fault-none : {k : TokenKind} {n : ℕ} → a ≡ answer.Token k n → Faults at a f

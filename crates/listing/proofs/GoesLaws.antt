@@ -25,9 +25,9 @@ use Rattle.wat.proofs.Divisions.{token-size, listed}
 use Rattle.wat.proofs.Boundaries.{token-formed}
 use Rattle.utf8.specs.Writing.{Put}
 use Rattle.utf8.proofs.PutLaws.{put-front, put-back, put-length}
-use Rattle.lexer.specs.declared.Step.{Step}
-use Rattle.lexer.specs.declared.Fault.{Fault}
-use Rattle.lexer.specs.Steps.{stepOf, Stepped, faultAt, Faults}
+use Rattle.steps.specs.declared.Step.{Step}
+use Rattle.steps.specs.declared.Fault.{Fault}
+use Rattle.steps.specs.Steps.{stepOf, Stepped, faultAt, Faults}
 use Rattle.listing.specs.Report.{Reports}
 
 -- ---- what a step says

@@ -43,7 +43,7 @@ fn list_from(text: &[u8], flag: bool, start: usize, budget: usize, list: &mut [u
                 position: at,
             };
         }
-        let step = lexer::parse_kind(text, at, flag, &t);
+        let step = steps::parse_kind(text, at, flag, &t);
         if step.kind == 0 {
             let fault = lexer::fault_at(text, at, flag, &t);
             let error = fault.error;

@@ -4,8 +4,8 @@ use native.Mathlib.Omega.{arith}
 use borrow.Author.Tests.{not-true, not-false}
 use Rattle.wat.specs.declared.TokenKind.the-variants as kind
 use Rattle.wat.specs.declared.Answer.{Answer}
-use Rattle.lexer.specs.Steps.{Faults}
-use Rattle.lexer.proofs.CommentLaws.{open-alone, open-within, block-open, block-onward, block-closed}
+use Rattle.steps.specs.Steps.{Faults}
+use Rattle.steps.proofs.CommentLaws.{open-alone, open-within, block-open, block-onward, block-closed}
 use Rattle.lexer.proofs.FaultLaws.{fault-none, fault-is}
 use borrow.Author.Needs.{needs}
 use Rattle.lexer.proofs.block_fault.Statement.{statement}
@@ -17,8 +17,8 @@ add-is-at c = search needs
 is-at-requires : tie.Need-is-at-requires
 is-at-requires c κs = search needs
 
-error-at-requires : tie.Need-error-at-requires
-error-at-requires c κs = search needs
+no-error-requires : tie.Need-no-error-requires
+no-error-requires c κs = search needs
 
 returns : tie.Need-returns
 returns c = let a = c .before .before .before .before .args in λ σ. fault-none (open-alone σ (a .s .now) (a .at) (sym (c .before .before .is-at .ensures) ∙ not-true _ (c .before .if1 .taken)))
@@ -29,11 +29,11 @@ add-block-end c = search needs
 block-end-requires : tie.Need-block-end-requires
 block-end-requires c κs = open-within _ _ (sym (c .before .is-at .ensures) ∙ not-false _ (c .if1 .left))
 
-error-at-requires-2 : tie.Need-error-at-requires-2
-error-at-requires-2 c κs = search needs
+error-at-requires : tie.Need-error-at-requires
+error-at-requires c κs = search needs
 
 returns-2 : tie.Need-returns-2
-returns-2 c = λ σ. fault-is (block-open σ _ _ (sym (c .before .before .before .before .is-at .ensures) ∙ not-false _ (c .before .before .before .if1 .left)) (c .before .before .block-end .ensures) (c .before .if2 .taken)) (c .error-at2 .ensures)
+returns-2 c = λ σ. fault-is (block-open σ _ _ (sym (c .before .before .before .before .is-at .ensures) ∙ not-false _ (c .before .before .before .if1 .left)) (c .before .before .block-end .ensures) (c .before .if2 .taken)) (c .error-at .ensures)
 
 comment-fault-requires : tie.Need-comment-fault-requires
 comment-fault-requires c κs =
@@ -52,11 +52,11 @@ block-fault-spec =
     (tie.spec
     add-is-at
     is-at-requires
-    error-at-requires
+    no-error-requires
     returns
     add-block-end
     block-end-requires
-    error-at-requires-2
+    error-at-requires
     returns-2
     comment-fault-requires
     returns-3)

@@ -13,8 +13,8 @@ enum-known-place c = search needs
 enum-told : tie.Need-enum-told
 enum-told c = search needs
 
-error-at-requires : tie.Need-error-at-requires
-error-at-requires c κs = search needs
+no-error-requires : tie.Need-no-error-requires
+no-error-requires c κs = search needs
 
 returns : tie.Need-returns
 returns c = comment-found _ _ _ (c .before .before .before .before .before .pre .0 .0) (c .before .before .before .check-confusing-comment .ensures) (c .before .place .given .1)
@@ -29,6 +29,6 @@ comment-fault-spec =
     check-confusing-comment-requires
     enum-known-place
     enum-told
-    error-at-requires
+    no-error-requires
     returns
     returns-2)

@@ -2,8 +2,8 @@
 use mathlib.Core.Path.{sym, subst}
 use Rattle.wat.specs.declared.Answer.{Answer}
 use Rattle.wat.specs.LexModel.{spaces, open-paren, close-paren, single, semi, run, other}
-use Rattle.lexer.specs.Steps.{Faults}
-use Rattle.lexer.proofs.LexLaws.{family-told, lex-family}
+use Rattle.steps.specs.Steps.{Faults}
+use Rattle.steps.proofs.LexLaws.{family-told, lex-family}
 use Rattle.lexer.proofs.FaultLaws.{fault-none}
 use borrow.Author.Needs.{needs}
 use Rattle.lexer.proofs.fault_at.Statement.{statement}
@@ -42,20 +42,20 @@ unexpected-requires c κs = search needs
 enum-told-5 : tie.Need-enum-told-5
 enum-told-5 c = search needs
 
-error-at-requires : tie.Need-error-at-requires
-error-at-requires c κs = search needs
+no-error-requires : tie.Need-no-error-requires
+no-error-requires c κs = search needs
 
 enum-told-6 : tie.Need-enum-told-6
 enum-told-6 c = search needs
 
-error-at-requires-2 : tie.Need-error-at-requires-2
-error-at-requires-2 c κs = search needs
+no-error-requires-2 : tie.Need-no-error-requires-2
+no-error-requires-2 c κs = search needs
 
 enum-told-7 : tie.Need-enum-told-7
 enum-told-7 c = search needs
 
-error-at-requires-3 : tie.Need-error-at-requires-3
-error-at-requires-3 c κs = search needs
+no-error-requires-3 : tie.Need-no-error-requires-3
+no-error-requires-3 c κs = search needs
 
 returns : tie.Need-returns
 returns c =
@@ -101,11 +101,11 @@ fault-at-spec =
     enum-told-4
     unexpected-requires
     enum-told-5
-    error-at-requires
+    no-error-requires
     enum-told-6
-    error-at-requires-2
+    no-error-requires-2
     enum-told-7
-    error-at-requires-3
+    no-error-requires-3
     returns
     returns-2
     returns-3

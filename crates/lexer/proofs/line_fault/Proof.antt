@@ -3,8 +3,8 @@ use mathlib.Core.Path.{sym, subst, _∙_}
 use borrow.Author.Tests.{not-true, not-false}
 use Rattle.wat.specs.declared.TokenKind.the-variants as kind
 use Rattle.wat.specs.declared.Answer.{Answer}
-use Rattle.lexer.specs.Steps.{Faults}
-use Rattle.lexer.proofs.CommentLaws.{semi-alone, semi-comment}
+use Rattle.steps.specs.Steps.{Faults}
+use Rattle.steps.proofs.CommentLaws.{semi-alone, semi-comment}
 use Rattle.lexer.proofs.FaultLaws.{fault-none}
 use borrow.Author.Needs.{needs}
 use Rattle.lexer.proofs.line_fault.Statement.{statement}
@@ -16,8 +16,8 @@ add-is-at c = search needs
 is-at-requires : tie.Need-is-at-requires
 is-at-requires c κs = search needs
 
-error-at-requires : tie.Need-error-at-requires
-error-at-requires c κs = search needs
+no-error-requires : tie.Need-no-error-requires
+no-error-requires c κs = search needs
 
 returns : tie.Need-returns
 returns c = let a = c .before .before .before .before .args in λ σ. fault-none (semi-alone σ (a .s .now) (a .at) (sym (c .before .before .is-at .ensures) ∙ not-true _ (c .before .if1 .taken)))
@@ -40,7 +40,7 @@ line-fault-spec =
     (tie.spec
     add-is-at
     is-at-requires
-    error-at-requires
+    no-error-requires
     returns
     line-end-requires
     comment-fault-requires

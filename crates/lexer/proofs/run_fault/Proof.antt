@@ -14,8 +14,8 @@ enum-known-fault c = search needs
 enum-told : tie.Need-enum-told
 enum-told c = search needs
 
-error-at-requires : tie.Need-error-at-requires
-error-at-requires c κs = search needs
+no-error-requires : tie.Need-no-error-requires
+no-error-requires c κs = search needs
 
 returns : tie.Need-returns
 returns c = run-fails _ _ _ (sym (c .before .before .before .parse-run .ensures) ∙ c .before .fault .given .1)
@@ -26,4 +26,4 @@ returns-2 c = run-stops _ _ _ (sym (c .before .before .before .parse-run .ensure
 pub run-fault-spec : {M : Type 1} → statement M
 run-fault-spec =
     tie.close
-    (tie.spec parse-run-requires enum-known-fault enum-told error-at-requires returns returns-2)
+    (tie.spec parse-run-requires enum-known-fault enum-told no-error-requires returns returns-2)

@@ -4,7 +4,7 @@ use mathlib.Core.Path.{ap, subst, _∙_}
 use Rattle.wat.specs.declared.LexError.the-variants.{Unexpected}
 use Rattle.wat.specs.LexModel.{otherBy}
 use Rattle.utf8.specs.Decoding.{Decodes}
-use Rattle.lexer.specs.Steps.{faultAt}
+use Rattle.steps.specs.Steps.{faultAt}
 use Rattle.lexer.proofs.FaultLaws.{fault-end, fault-is}
 use borrow.Author.Needs.{needs}
 use Rattle.lexer.proofs.unexpected.Statement.{statement}
@@ -22,8 +22,8 @@ error-at-requires c κs = search needs
 enum-told : tie.Need-enum-told
 enum-told c = search needs
 
-error-at-requires-2 : tie.Need-error-at-requires-2
-error-at-requires-2 c κs = search needs
+no-error-requires : tie.Need-no-error-requires
+no-error-requires c κs = search needs
 
 returns : tie.Need-returns
 returns c =
@@ -44,6 +44,6 @@ unexpected-spec =
     enum-known-value
     error-at-requires
     enum-told
-    error-at-requires-2
+    no-error-requires
     returns
     returns-2)

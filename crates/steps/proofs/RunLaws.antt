@@ -1,0 +1,176 @@
+-- Runs of idchars and strings, passed part by part. Assumes nothing.
+use Prim.Native.Nat.{ℕ, suc, _+_, _-_, _≤_, _<_}
+use mathlib.Core.Path.{_≡_, refl, sym, ap, _∙_}
+use mathlib.Core.Bool.{true, false}
+use mathlib.Core.List.{List, [], _∷_, _++_, append-nil, append-assoc}
+use native.Mathlib.Omega.{arith}
+use lib.ListN.{length, getD, take, drop, length-append, length-drop}
+use lib.Seq.{slice, length-slice, slice-empty, drop-cons, drop-drop, getD-drop}
+use borrow.Author.Tests.{eqb-true, eqb-false}
+use Rattle.wat.specs.declared.LexError.{LexError}
+use Rattle.wat.specs.Bytes.{byte, Each}
+use Rattle.wat.specs.Settings.{Settings}
+use Rattle.wat.specs.Utf8.{WellFormed}
+use Rattle.wat.specs.Chars.{idchar}
+use Rattle.wat.specs.Strings.{Str}
+use Rattle.wat.specs.Tokens.{Run}
+use Rattle.wat.specs.RunModel.{Body, closed, failed, body, Walk, stops, fails, on, walk}
+use Rattle.wat.specs.LexModel.{count, next}
+use Rattle.wat.proofs.Scalars.{after-ascii}
+use Rattle.wat.proofs.Hexnums.{differ}
+use Rattle.wat.proofs.Runs.{Bodies, is-closed, is-failed, bodies, Stopped, ended, halted, quote-no-idchar, idchar-ascii, run-stops, run-fails, Walks, is-run, is-bad, walks}
+use Rattle.wat.proofs.Shapes.{both, word-run}
+use Rattle.wat.proofs.Total.{count-take}
+use Rattle.classes.specs.Scan.{Scanned}
+use Rattle.classes.proofs.ScanLaws.{count-next}
+use Rattle.steps.proofs.SliceLaws.{slice-split, slice-take, slice-join, part-within, part-is, part-rest}
+
+-- the walk of all that is left
+abbrev pub walked : Settings → List ℕ → Walk
+walked σ t = walk σ (suc (length t)) t
+
+-- a string's rest, in the same way
+abbrev pub bodied : Settings → List ℕ → Body
+bodied σ t = body σ (suc (length t)) t
+
+-- ---- runs one after the other
+
+run-append : {σ : Settings} {u v : List ℕ} → Run σ u → Run σ v → Run σ (u ++ v)
+run-append Run.none q = q
+run-append (Run.char e r) q = Run.char e (run-append r q)
+run-append {v = v} (Run.string {s = s} {t = t} p r) q = rw (append-assoc s t v) (Run.string p (run-append r q))
+
+-- behind a run the walk goes on as if it began there
+run-joined : {σ : Settings} {w : List ℕ} (t : List ℕ) → Run σ w → WellFormed t → walked σ (w ++ t) ≡ on (length w) (walked σ t)
+run-joined {σ} {w} t r g = go (walks (suc (length t)) t (omega arith) g)
+  where
+    fuel : ℕ
+    fuel = suc (length (w ++ t))
+
+    more : (v u : List ℕ) → t ≡ v ++ u → w ++ t ≡ (w ++ v) ++ u
+    more v u q = ap (λ (z : List ℕ). w ++ z) q ∙ sym (append-assoc w v u)
+
+    enough : (v u : List ℕ) → t ≡ v ++ u → length (w ++ v) < fuel
+    enough v u q = omega (arith, ap length (more v u q), length-append (w ++ v) u)
+
+    failing : (e : LexError) {a b c d : ℕ} → a ≡ c → b ≡ d → fails e a b ≡ fails e c d
+    failing e p q = cc
+
+    go : {k : Walk} → Walks σ t k → walk σ fuel (w ++ t) ≡ on (length w) k
+    go (is-run {w = v} {n = n} u q x z m) =
+        ap (walk σ fuel) (more v u q) ∙ run-stops fuel (run-append r x) z (enough v u q) ∙ ap stops (omega (arith, length-append w v))
+    go (is-bad {w = v} {s = s} {e = e} {p = p} {n = n} {a = a} {b = b} q x z i j) =
+        ap (walk σ fuel) (more v s q) ∙ run-fails fuel (run-append r x) z (enough v s q) ∙ failing e (omega (arith, length-append w v)) (omega (arith, length-append w v))
+
+-- ---- a run in a text, from a place to a place
+
+pub record Ran (σ : Settings) (s : List ℕ) (from to : ℕ) : Type 0 where
+  pub onward : from ≤ to
+  pub within : to ≤ length s
+  pub run : Run σ (slice from to s)
+  pub formed : WellFormed (drop to s)
+
+module _ {σ : Settings} {s : List ℕ} where
+  pub ran-none : (at : ℕ) → at ≤ length s → WellFormed (drop at s) → Ran σ s at at
+  ran-none at h g = record { onward = omega arith; within = h; run = rw (slice-empty at s) Run.none; formed = g }
+
+  pub ran-more : {a b c : ℕ} → Ran σ s a b → Ran σ s b c → Ran σ s a c
+  ran-more {a} {b} {c} p q =
+      record {
+        onward = omega (arith, p .onward, q .onward);
+        within = q .within;
+        run = rw (slice-join s a b (p .within) (p .onward) c (q .onward) (q .within)) (run-append (p .run) (q .run));
+        formed = q .formed;
+      }
+
+  pub ran-walk : {a b : ℕ} → Ran σ s a b → walked σ (drop a s) ≡ on (b - a) (walked σ (drop b s))
+  ran-walk {a} {b} p =
+      ap (walked σ) (slice-split s a b (p .within) (p .onward)) ∙ run-joined (drop b s) (p .run) (p .formed)
+      ∙ ap (λ (n : ℕ). on n (walked σ (drop b s))) (length-slice a b s (p .within))
+
+-- ---- idchars
+
+after-idchars : {w : List ℕ} (u : List ℕ) → Each idchar true w → WellFormed (w ++ u) → WellFormed u
+after-idchars u Each.none g = g
+after-idchars u (Each.next {x = x} {t = t} e r) g = after-idchars u r (after-ascii x (t ++ u) (idchar-ascii x e) g)
+
+module _ {s : List ℕ} {at end : ℕ} (c : Scanned idchar true s at end) where
+  onward : at ≤ end
+  onward = omega (arith, c .end)
+
+  pub scanned-idchars : Each idchar true (slice at end s)
+  scanned-idchars =
+      let e : count idchar true (drop at s) ≡ end - at = omega (arith, c .end) in
+      let l : take (count idchar true (drop at s)) (drop at s) ≡ slice at end s = rw e (slice-take s at end (c .within) onward) in
+      rw l at (count-take idchar true (drop at s) .0)
+
+  pub ran-idchars : {σ : Settings} → WellFormed (drop at s) → Ran σ s at end
+  ran-idchars g =
+      record {
+        onward = onward;
+        within = c .within;
+        run = word-run scanned-idchars;
+        formed = after-idchars (drop end s) scanned-idchars (rw (slice-split s at end (c .within) onward) at g);
+      }
+
+  -- no quotation mark behind them: the run stops
+  pub idchars-stop : next (byte "\"") (drop end s) ≡ false → Stopped (drop end s)
+  idchars-stop n = go (drop end s) refl
+    where
+      go : (t : List ℕ) → drop end s ≡ t → Stopped (drop end s)
+      go [] e = rw e ended
+      go (x ∷ u) e =
+          let h : end < length s = omega (arith, length-drop end s, ap length e) in
+          let d : getD s end 0 ∷ drop (suc end) s ≡ x ∷ u = sym (drop-cons s end 0 h) ∙ e in
+          let q : getD s end 0 ≡ x = cc in
+          let f : idchar (getD (drop at s) (count idchar true (drop at s)) 0) ≡ false = count-next idchar true (drop at s) (omega (arith, length-drop at s, c .end)) in
+          let i : idchar x ≡ false = rw (getD-drop at s (count idchar true (drop at s)) 0, ← c .end, q) at f in
+          rw e (halted i (eqb-false x (byte "\"") (sym (ap (next (byte "\"")) e) ∙ n)))
+
+-- ---- strings
+
+pub quote-at : (s : List ℕ) (at : ℕ) → next (byte "\"") (drop at s) ≡ true → (at < length s) × (drop at s ≡ byte "\"" ∷ drop (at + 1) s)
+quote-at s at n = go (drop at s) refl
+  where
+    go : (t : List ℕ) → drop at s ≡ t → (at < length s) × (drop at s ≡ byte "\"" ∷ drop (at + 1) s)
+    go [] e = absurd (both (sym (ap (next (byte "\"")) e) ∙ n) refl)
+    go (x ∷ u) e =
+        let q : x ≡ byte "\"" = eqb-true x (byte "\"") (sym (ap (next (byte "\"")) e) ∙ n) in
+        let d : drop (at + 1) s ≡ u = sym (drop-drop 1 at s) ∙ ap (drop 1) e in
+        (omega (arith, length-drop at s, ap length e), cc)
+
+-- a whole string in a text
+pub record Quoted (σ : Settings) (s : List ℕ) (at end : ℕ) : Type 0 where
+  pub value : List ℕ
+  pub is : Str σ (slice at end s) value
+  pub two : at + 2 ≤ end
+  pub ran : Ran σ s at end
+
+module _ (σ : Settings) (s : List ℕ) (at : ℕ) (h : at < length s) (q : drop at s ≡ byte "\"" ∷ drop (at + 1) s) where
+  pub string-closed : {n : ℕ} {v : List ℕ} (end : ℕ) → WellFormed (drop at s) → bodied σ (drop (at + 1) s) ≡ closed n v → end ≡ at + 1 + n → Quoted σ s at end
+  string-closed {n} {v} end g e l =
+      go (bodies (suc (length (drop (at + 1) s))) (drop (at + 1) s) (omega arith) (after-ascii (byte "\"") (drop (at + 1) s) (omega arith) (rw q at g))) e
+    where
+      go : {b : Body} → Bodies σ (drop (at + 1) s) b → b ≡ closed n v → Quoted σ s at end
+      go (is-closed {s = w} {v = y} {n = m} x p r f k) e =
+          let z : m ≡ n = cc in
+          let str : List ℕ = byte "\"" ∷ (w ++ (byte "\"" ∷ [])) in
+          let d : drop at s ≡ str ++ x = q ∙ ap (λ (t : List ℕ). byte "\"" ∷ t) (p ∙ sym (append-assoc w (byte "\"" ∷ []) x)) in
+          let long : end ≡ at + length str = omega (arith, length-append w (byte "\"" ∷ [])) in
+          let is = part-is s at end str x (omega arith) d long in
+          record {
+            value = y;
+            is = rw is (Str.quoted r);
+            two = omega (arith, length-append w (byte "\"" ∷ []));
+            ran = record {
+              onward = omega arith;
+              within = part-within s at end str x (omega arith) d long;
+              run = rw is (rw append-nil at (Run.string (Str.quoted r) Run.none));
+              formed = rw (part-rest s at end str x (omega arith) d long) f;
+            };
+          }
+      go (is-failed p r f i j) e = differ (cc)
+
+  pub string-failed : {e : LexError} {p n : ℕ} → bodied σ (drop (at + 1) s) ≡ failed e p n → walked σ (drop at s) ≡ fails e (suc p) (suc n)
+  unfolding walk
+  string-failed e = ap (walked σ) q ∙ rw (quote-no-idchar, walk) (rw e)
