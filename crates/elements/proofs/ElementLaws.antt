@@ -1,5 +1,5 @@
 -- What the model reads at a character, in the terms of the code: a law for each way to return. Assumes nothing.
-use Prim.Native.Nat.{ℕ, suc, pred, _+_, _*_, _≤_, _<_}
+use Prim.Native.Nat.{ℕ, _+_, _*_, _≤_, _<_}
 use mathlib.Core.Path.{_≡_, refl, sym, ap, subst, _∙_}
 use mathlib.Core.List.{List, [], _∷_, _++_}
 use mathlib.Core.Option.{none, some}
@@ -16,7 +16,7 @@ use Rattle.wat.specs.Settings.{Settings}
 use Rattle.wat.specs.Utf8.{scalar}
 use Rattle.wat.specs.Chars.{control, isScalar}
 use Rattle.wat.specs.Strings.{escapes}
-use Rattle.wat.specs.StringModel.{nothing, char, peek, hexOf, Num, num, lone, big, digits, encode, letterOf, Read, element, quote, refused, closeBy, numberBy, firstBy, braceBy, secondBy, escapeBy, hides, readBy, read}
+use Rattle.wat.specs.StringModel.{nothing, peek, hexOf, Num, num, lone, big, digits, encode, letterOf, Read, element, quote, refused, closeBy, numberBy, firstBy, braceBy, secondBy, escapeBy, hides, readBy, read}
 use Rattle.utf8.specs.Decoding.{Character}
 use Rattle.elements.specs.Elements.{Element, Refusal, Says}
 use Rattle.elements.specs.declared.Read as declared

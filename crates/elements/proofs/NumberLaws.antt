@@ -1,14 +1,14 @@
 -- Laws for the loop that reads the number of `\u{..}`. Assumes nothing.
 use Prim.Native.Nat.{ℕ, suc, _+_, _-_, _*_, _^_, _≤_, _<_}
 use mathlib.Core.Path.{_≡_, refl, sym, subst, _∙_}
-use mathlib.Core.List.{List, [], _∷_}
+use mathlib.Core.List.{List, _∷_}
 use mathlib.Core.Option.{none, some}
 use mathlib.Core.Bool.{Bool, true, false}
 use native.Mathlib.Omega.{arith}
 use native.Mathlib.Numerals.{add-one}
 use lib.ListN.{length, getD, drop, length-drop, drop-of-length-le}
 use lib.Seq.{drop-cons}
-use Rattle.wat.specs.StringModel.{hexOf, close, big, digits}
+use Rattle.wat.specs.StringModel.{hexOf, close, digits}
 use Rattle.wat.specs.StringModel as model
 use Rattle.wat.proofs.Hexnums.{of-hex, hex-small, no-digit, goes-split, under, on-digit, on-big, on-stop}
 use Rattle.elements.specs.Elements.{numOf, consumed, Counted}

@@ -1,5 +1,5 @@
-// One element of a string, as the Rust's `parse_str` reads it, with the number of `\u{..}` (`hexnum`) and the errors. An element's numbers count
-// from its first byte. Each function is named after the character that it asks for, and is one function of wat's model.
+// One element of a string, as the Rust's `parse_str` reads it, with its errors. There is a function for each function of wat's model, in the
+// order in which the characters are asked for; `place`, `after` and `len` count from the element's first byte.
 
 ghost use mathlib.Core.Path.{_≡_};
 ghost use mathlib.Core.Bool.{true, false};
@@ -12,14 +12,6 @@ ghost use Rattle.utf8.specs.Decoding.{Decodes};
 ghost use Rattle.elements.specs.Elements.{numOf, consumed, Counted, letterOf, Says};
 use utf8::Decoded;
 use wat::LexError;
-
-// The number of `\u{..}` in so many bytes; or an underscore that no digit follows, the last of so many bytes; or a digit with which the
-// number no longer fits 32 bits, after so many bytes.
-pub enum Num {
-    Is { value: u32, len: usize },
-    Lone(usize),
-    Big(usize),
-}
 
 // What stands where an element or the closing quote is looked for: an element of so many bytes that stands for a byte or for a character;
 // the quote; or an error, its place, and the position past what was consumed.
@@ -40,278 +32,12 @@ pub enum Read {
     },
 }
 
-fn wide(x: u8) -> u32
-    ensures { λ r. ⌜ r ≡ x ⌝ }
-{
-    x as u32
-}
-
-// The next character, or nothing. An ASCII one needs no decoding.
-fn must_char(s: &[u8], at: usize) -> Decoded
-    ensures { λ r. ⌜ Decodes (now (s .entry)) at r ⌝ }
-{
-    if s.len() <= at {
-        return Decoded::Nothing;
-    }
-    let b = s[at];
-    if b < 0x80 {
-        return Decoded::Char {
-            value: wide(b),
-            len: 1,
-        };
-    }
-    utf8::decode(s, at)
-}
-
-fn close(under: bool, value: u32, len: usize) -> Num
-    ensures { λ r. ⌜ (numOf r ≡ model.close under value len) × (consumed r ≡ len) ⌝ }
-{
-    if under {
-        return Num::Lone(len);
-    }
-    Num::Is { value, len }
-}
-
-// The number of `\u{..}` whose first digit has the value `first` and ends at `at`.
-fn hexnum(s: &[u8], at: usize, first: u32) -> Num
-    requires { ⌜ at ≤ length (now s) ⌝ }
-    ensures { λ r. ⌜ Counted (drop at (now (s .entry))) (model.digits false first 1 (drop at (now (s .entry)))) r ⌝ }
-{
-    let mut value = first;
-    let mut under = false;
-    let mut i = at;
-    while i < s.len() {
-        let b = s[i];
-        if b == b'_' {
-            under = true;
-            i += 1;
-        } else {
-            let d = classes::to_hex(wide(b));
-            if 16 <= d {
-                return close(under, value, 1 + (i - at));
-            }
-            if 0x1000_0000 <= value {
-                return Num::Big(1 + (i - at));
-            }
-            value = value * 16 + wide(d);
-            under = false;
-            i += 1;
-        }
-    }
-    close(under, value, 1 + (i - at))
-}
-
-// The functions from here to `escape` read on in the escape that starts at `at`.
-
-// `}`, after a number of so many bytes.
-fn close_brace(s: &[u8], at: usize, value: u32, len: usize) -> Read
-    requires { ⌜ (at + (3 + len) ≤ length (now s)) × (isScalar value ≡ true) ⌝ }
-    ensures { λ r. ⌜ Says (drop at (now (s .entry))) (model.closeBy value len (model.peek (drop (at + (3 + len)) (now (s .entry))))) r ⌝ }
-{
-    let Decoded::Char {
-        value: found,
-        len: n,
-    } = must_char(s, at + (3 + len))
-    else {
-        return Read::Refused {
-            error: LexError::UnexpectedEof,
-            place: 3 + len,
-            after: 3 + len,
-        };
-    };
-    if found == b'}' as u32 {
-        return Read::Char {
-            value,
-            len: 4 + len,
-        };
-    }
-    Read::Refused {
-        error: LexError::Expected {
-            wanted: b'}' as u32,
-            found,
-        },
-        place: 3 + len,
-        after: 3 + (len + n),
-    }
-}
-
-// The number whose first digit is `first`: it must be a scalar value.
-fn unicode_value(s: &[u8], at: usize, first: u32) -> Read
-    requires { ⌜ at + 4 ≤ length (now s) ⌝ }
-    ensures { λ r. ⌜ Says (drop at (now (s .entry))) (model.numberBy (drop (at + 3) (now (s .entry))) (model.digits false first 1 (drop (at + 4) (now (s .entry))))) r ⌝ }
-{
-    match hexnum(s, at + 4, first) {
-        Num::Is { value, len } => {
-            if classes::is_scalar(value) {
-                return close_brace(s, at, value, len);
-            }
-            Read::Refused {
-                error: LexError::InvalidUnicodeValue(value),
-                place: 2 + len,
-                after: 3 + len,
-            }
-        }
-        Num::Lone(len) => Read::Refused {
-            error: LexError::LoneUnderscore,
-            place: 2 + len,
-            after: 3 + len,
-        },
-        Num::Big(len) => Read::Refused {
-            error: LexError::NumberTooBig,
-            place: 3 + len,
-            after: 4 + len,
-        },
-    }
-}
-
-// The first digit after `\u{`.
-fn first_digit(s: &[u8], at: usize) -> Read
-    requires { ⌜ at + 3 ≤ length (now s) ⌝ }
-    ensures { λ r. ⌜ Says (drop at (now (s .entry))) (model.firstBy (model.peek (drop (at + 3) (now (s .entry))))) r ⌝ }
-{
-    let Decoded::Char { value, len } = must_char(s, at + 3) else {
-        return Read::Refused {
-            error: LexError::UnexpectedEof,
-            place: 3,
-            after: 3,
-        };
-    };
-    let d = classes::to_hex(value);
-    if d < 16 {
-        return unicode_value(s, at, wide(d));
-    }
-    Read::Refused {
-        error: LexError::InvalidHexDigit(value),
-        place: 3,
-        after: 3 + len,
-    }
-}
-
-// `{`, after `\u`.
-fn open_brace(s: &[u8], at: usize) -> Read
-    requires { ⌜ at + 2 ≤ length (now s) ⌝ }
-    ensures { λ r. ⌜ Says (drop at (now (s .entry))) (model.braceBy (model.peek (drop (at + 2) (now (s .entry))))) r ⌝ }
-{
-    let Decoded::Char { value, len } = must_char(s, at + 2) else {
-        return Read::Refused {
-            error: LexError::UnexpectedEof,
-            place: 2,
-            after: 2,
-        };
-    };
-    if value == b'{' as u32 {
-        return first_digit(s, at);
-    }
-    Read::Refused {
-        error: LexError::Expected {
-            wanted: b'{' as u32,
-            found: value,
-        },
-        place: 2,
-        after: 2 + len,
-    }
-}
-
-// The second digit of `\hh`, after one of value `high`.
-fn second_digit(s: &[u8], at: usize, high: u8) -> Read
-    requires { ⌜ (at + 2 ≤ length (now s)) × (high < 16) ⌝ }
-    ensures { λ r. ⌜ Says (drop at (now (s .entry))) (model.secondBy high (model.peek (drop (at + 2) (now (s .entry))))) r ⌝ }
-{
-    let Decoded::Char { value, len } = must_char(s, at + 2) else {
-        return Read::Refused {
-            error: LexError::UnexpectedEof,
-            place: 2,
-            after: 2,
-        };
-    };
-    let d = classes::to_hex(value);
-    if d < 16 {
-        return Read::Byte {
-            value: high * 16 + d,
-            len: 3,
-        };
-    }
-    Read::Refused {
-        error: LexError::InvalidHexDigit(value),
-        place: 2,
-        after: 2 + len,
-    }
-}
-
-// The byte that a letter after `\` stands for, or 0 for any other character.
-fn letter(c: u32) -> u8
-    ensures { λ r. ⌜ model.letterOf escapes c ≡ letterOf r ⌝ }
-{
-    match c {
-        0x74 => b'\t',
-        0x6E => b'\n',
-        0x72 => b'\r',
-        0x22 => b'"',
-        0x27 => b'\'',
-        0x5C => b'\\',
-        _ => 0,
-    }
-}
-
-// What follows `\`.
-fn escape(s: &[u8], at: usize) -> Read
-    requires { ⌜ at + 1 ≤ length (now s) ⌝ }
-    ensures { λ r. ⌜ Says (drop at (now (s .entry))) (model.escapeBy (model.peek (drop (at + 1) (now (s .entry))))) r ⌝ }
-{
-    let Decoded::Char { value, len } = must_char(s, at + 1) else {
-        return Read::Refused {
-            error: LexError::UnexpectedEof,
-            place: 1,
-            after: 1,
-        };
-    };
-    if value == b'u' as u32 {
-        return open_brace(s, at);
-    }
-    let v = letter(value);
-    if v != 0 {
-        return Read::Byte { value: v, len: 2 };
-    }
-    let d = classes::to_hex(value);
-    if d < 16 {
-        return second_digit(s, at, d);
-    }
-    Read::Refused {
-        error: LexError::InvalidStringEscape(value),
-        place: 1,
-        after: 1 + len,
-    }
-}
-
-fn hides(allow_confusing: bool, c: u32) -> bool
-    ensures { λ r. ⌜ r ≡ model.hides (record { confusing = «allow_confusing» }) c ⌝ }
-{
-    if allow_confusing {
-        return false;
-    }
-    classes::is_confusing_unicode(c)
-}
-
-// The same where the byte is not ASCII.
-fn wide_element(s: &[u8], at: usize, allow_confusing: bool) -> Read
-    requires { ⌜ 0x80 ≤ getD (now s) at 0 ⌝ }
-    ensures { λ r. ⌜ Says (drop at (now (s .entry))) (model.read (record { confusing = «allow_confusing» }) (drop at (now (s .entry)))) r ⌝ }
-{
-    let Decoded::Char { value, len } = utf8::decode(s, at) else {
-        return Read::Refused {
-            error: LexError::UnexpectedEof,
-            place: 0,
-            after: 0,
-        };
-    };
-    if hides(allow_confusing, value) {
-        return Read::Refused {
-            error: LexError::ConfusingUnicode(value),
-            place: 0,
-            after: len,
-        };
-    }
-    Read::Char { value, len }
+// The number of `\u{..}` in so many bytes; or so many bytes of which the last is an underscore; or, after so many bytes, a digit with which
+// the number no longer fits 32 bits.
+enum Num {
+    Is { value: u32, len: usize },
+    Lone(usize),
+    Big(usize),
 }
 
 // An element or the closing quote, at any position of any bytes; where no character stands, the text ends for it.
@@ -344,4 +70,278 @@ pub fn element(s: &[u8], at: usize, allow_confusing: bool) -> Read
         };
     }
     Read::Char { value, len: 1 }
+}
+
+// The same where the byte is not ASCII: `"`, `\` and what 12 refuses are ASCII.
+fn wide_element(s: &[u8], at: usize, allow_confusing: bool) -> Read
+    requires { ⌜ 0x80 ≤ getD (now s) at 0 ⌝ }
+    ensures { λ r. ⌜ Says (drop at (now (s .entry))) (model.read (record { confusing = «allow_confusing» }) (drop at (now (s .entry)))) r ⌝ }
+{
+    let Decoded::Char { value, len } = utf8::decode(s, at) else {
+        return Read::Refused {
+            error: LexError::UnexpectedEof,
+            place: 0,
+            after: 0,
+        };
+    };
+    if hides(allow_confusing, value) {
+        return Read::Refused {
+            error: LexError::ConfusingUnicode(value),
+            place: 0,
+            after: len,
+        };
+    }
+    Read::Char { value, len }
+}
+
+// Whether a raw character is refused by 21.
+fn hides(allow_confusing: bool, c: u32) -> bool
+    ensures { λ r. ⌜ r ≡ model.hides (record { confusing = «allow_confusing» }) c ⌝ }
+{
+    if allow_confusing {
+        return false;
+    }
+    classes::is_confusing_unicode(c)
+}
+
+// The functions from here on go on in the escape that starts at `at`. After `\`:
+fn escape(s: &[u8], at: usize) -> Read
+    requires { ⌜ at + 1 ≤ length (now s) ⌝ }
+    ensures { λ r. ⌜ Says (drop at (now (s .entry))) (model.escapeBy (model.peek (drop (at + 1) (now (s .entry))))) r ⌝ }
+{
+    let Decoded::Char { value, len } = must_char(s, at + 1) else {
+        return Read::Refused {
+            error: LexError::UnexpectedEof,
+            place: 1,
+            after: 1,
+        };
+    };
+    if value == b'u' as u32 {
+        return open_brace(s, at);
+    }
+    let v = letter(value);
+    if v != 0 {
+        return Read::Byte { value: v, len: 2 };
+    }
+    let d = classes::to_hex(value);
+    if d < 16 {
+        return second_digit(s, at, d);
+    }
+    Read::Refused {
+        error: LexError::InvalidStringEscape(value),
+        place: 1,
+        after: 1 + len,
+    }
+}
+
+// The byte that a letter after `\` stands for, or 0 for any other character.
+fn letter(c: u32) -> u8
+    ensures { λ r. ⌜ model.letterOf escapes c ≡ letterOf r ⌝ }
+{
+    match c {
+        0x74 => b'\t', // t
+        0x6E => b'\n', // n
+        0x72 => b'\r', // r
+        0x22 => b'"',
+        0x27 => b'\'',
+        0x5C => b'\\',
+        _ => 0,
+    }
+}
+
+// After `\` and a digit of value `high`: the Rust's `hexdigit`.
+fn second_digit(s: &[u8], at: usize, high: u8) -> Read
+    requires { ⌜ (at + 2 ≤ length (now s)) × (high < 16) ⌝ }
+    ensures { λ r. ⌜ Says (drop at (now (s .entry))) (model.secondBy high (model.peek (drop (at + 2) (now (s .entry))))) r ⌝ }
+{
+    let Decoded::Char { value, len } = must_char(s, at + 2) else {
+        return Read::Refused {
+            error: LexError::UnexpectedEof,
+            place: 2,
+            after: 2,
+        };
+    };
+    let d = classes::to_hex(value);
+    if d < 16 {
+        return Read::Byte {
+            value: high * 16 + d,
+            len: 3,
+        };
+    }
+    Read::Refused {
+        error: LexError::InvalidHexDigit(value),
+        place: 2,
+        after: 2 + len,
+    }
+}
+
+// After `\u`: the Rust's `must_eat_char` for `{`.
+fn open_brace(s: &[u8], at: usize) -> Read
+    requires { ⌜ at + 2 ≤ length (now s) ⌝ }
+    ensures { λ r. ⌜ Says (drop at (now (s .entry))) (model.braceBy (model.peek (drop (at + 2) (now (s .entry))))) r ⌝ }
+{
+    let Decoded::Char { value, len } = must_char(s, at + 2) else {
+        return Read::Refused {
+            error: LexError::UnexpectedEof,
+            place: 2,
+            after: 2,
+        };
+    };
+    if value == b'{' as u32 {
+        return first_digit(s, at);
+    }
+    Read::Refused {
+        error: LexError::Expected {
+            wanted: b'{' as u32,
+            found: value,
+        },
+        place: 2,
+        after: 2 + len,
+    }
+}
+
+// After `\u{`: the Rust's `hexnum` up to its loop.
+fn first_digit(s: &[u8], at: usize) -> Read
+    requires { ⌜ at + 3 ≤ length (now s) ⌝ }
+    ensures { λ r. ⌜ Says (drop at (now (s .entry))) (model.firstBy (model.peek (drop (at + 3) (now (s .entry))))) r ⌝ }
+{
+    let Decoded::Char { value, len } = must_char(s, at + 3) else {
+        return Read::Refused {
+            error: LexError::UnexpectedEof,
+            place: 3,
+            after: 3,
+        };
+    };
+    let d = classes::to_hex(value);
+    if d < 16 {
+        return unicode_value(s, at, wide(d));
+    }
+    Read::Refused {
+        error: LexError::InvalidHexDigit(value),
+        place: 3,
+        after: 3 + len,
+    }
+}
+
+// After `\u{` and a digit of value `first`. The number must be a scalar value before `}` is looked for.
+fn unicode_value(s: &[u8], at: usize, first: u32) -> Read
+    requires { ⌜ at + 4 ≤ length (now s) ⌝ }
+    ensures { λ r. ⌜ Says (drop at (now (s .entry))) (model.numberBy (drop (at + 3) (now (s .entry))) (model.digits false first 1 (drop (at + 4) (now (s .entry))))) r ⌝ }
+{
+    match hexnum(s, at + 4, first) {
+        Num::Is { value, len } => {
+            if classes::is_scalar(value) {
+                return close_brace(s, at, value, len);
+            }
+            Read::Refused {
+                error: LexError::InvalidUnicodeValue(value),
+                place: 2 + len,
+                after: 3 + len,
+            }
+        }
+        Num::Lone(len) => Read::Refused {
+            error: LexError::LoneUnderscore,
+            place: 2 + len,
+            after: 3 + len,
+        },
+        Num::Big(len) => Read::Refused {
+            error: LexError::NumberTooBig,
+            place: 3 + len,
+            after: 4 + len,
+        },
+    }
+}
+
+// After `\u{` and a number of `len` bytes: the Rust's `must_eat_char` for `}`.
+fn close_brace(s: &[u8], at: usize, value: u32, len: usize) -> Read
+    requires { ⌜ (at + (3 + len) ≤ length (now s)) × (isScalar value ≡ true) ⌝ }
+    ensures { λ r. ⌜ Says (drop at (now (s .entry))) (model.closeBy value len (model.peek (drop (at + (3 + len)) (now (s .entry))))) r ⌝ }
+{
+    let Decoded::Char {
+        value: found,
+        len: n,
+    } = must_char(s, at + (3 + len))
+    else {
+        return Read::Refused {
+            error: LexError::UnexpectedEof,
+            place: 3 + len,
+            after: 3 + len,
+        };
+    };
+    if found == b'}' as u32 {
+        return Read::Char {
+            value,
+            len: 4 + len,
+        };
+    }
+    Read::Refused {
+        error: LexError::Expected {
+            wanted: b'}' as u32,
+            found,
+        },
+        place: 3 + len,
+        after: 3 + (len + n),
+    }
+}
+
+// The number of `\u{..}` whose first digit has the value `first` and ends at `at`: the loop of the Rust's `hexnum`.
+fn hexnum(s: &[u8], at: usize, first: u32) -> Num
+    requires { ⌜ at ≤ length (now s) ⌝ }
+    ensures { λ r. ⌜ Counted (drop at (now (s .entry))) (model.digits false first 1 (drop at (now (s .entry)))) r ⌝ }
+{
+    let mut value = first;
+    let mut under = false;
+    let mut i = at;
+    while i < s.len() {
+        let b = s[i];
+        if b == b'_' {
+            under = true;
+            i += 1;
+        } else {
+            let d = classes::to_hex(wide(b));
+            if 16 <= d {
+                return close(under, value, 1 + (i - at));
+            }
+            if 0x1000_0000 <= value {
+                return Num::Big(1 + (i - at));
+            }
+            value = value * 16 + wide(d);
+            under = false;
+            i += 1;
+        }
+    }
+    close(under, value, 1 + (i - at))
+}
+
+// The number ends here, after an underscore or not.
+fn close(under: bool, value: u32, len: usize) -> Num
+    ensures { λ r. ⌜ (numOf r ≡ model.close under value len) × (consumed r ≡ len) ⌝ }
+{
+    if under {
+        return Num::Lone(len);
+    }
+    Num::Is { value, len }
+}
+
+// The next character, or nothing. An ASCII one needs no decoding.
+fn must_char(s: &[u8], at: usize) -> Decoded
+    ensures { λ r. ⌜ Decodes (now (s .entry)) at r ⌝ }
+{
+    if s.len() <= at {
+        return Decoded::Nothing;
+    }
+    let b = s[at];
+    if b < 0x80 {
+        return Decoded::Char {
+            value: wide(b),
+            len: 1,
+        };
+    }
+    utf8::decode(s, at)
+}
+
+fn wide(x: u8) -> u32
+    ensures { λ r. ⌜ r ≡ x ⌝ }
+{
+    x as u32
 }

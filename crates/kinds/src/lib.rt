@@ -3,7 +3,9 @@ ghost use mathlib.Core.Path.{_≡_};
 ghost use Prim.Native.Nat.{_≤_, _/_, _%_};
 ghost use lib.Dec.{eqb};
 ghost use Rattle.wat.specs.Cases.{flag as flag-of, signNumber, floatNumber, kindNumber, errorNumber, number};
+ghost use mathlib.Core.List.{[], _∷_};
 ghost use Rattle.kinds.specs.Numbered.{Numbered, Same};
+ghost use Rattle.kinds.specs.Carried.{Carried};
 use wat::FloatKind;
 use wat::IntegerKind;
 use wat::LexError;
@@ -196,5 +198,81 @@ pub fn refusal_number(r: Refusal) -> u8
         Refusal::NotThatKind => 31,
         Refusal::BufferTooShort => 32,
         Refusal::NoMessage => 34,
+    }
+}
+
+// The values that a refusal carries, 0 for each that it lacks: characters and numbers of an error, or the two numbers of `Utf8Error`.
+pub struct Values {
+    pub first: u64,
+    pub second: u64,
+}
+
+fn none() -> Values
+    ensures { λ v. ⌜ Carried [] v ⌝ }
+{
+    Values {
+        first: 0,
+        second: 0,
+    }
+}
+
+fn one(c: u32) -> Values
+    ensures { λ v. ⌜ Carried (c ∷ []) v ⌝ }
+{
+    Values {
+        first: c as u64,
+        second: 0,
+    }
+}
+
+fn two(a: usize, b: usize) -> Values
+    ensures { λ v. ⌜ Carried (a ∷ b ∷ []) v ⌝ }
+{
+    Values {
+        first: a as u64,
+        second: b as u64,
+    }
+}
+
+pub fn error_values(e: LexError) -> Values
+    ensures { λ v. ⌜ Carried (errorNumber e .1) v ⌝ }
+{
+    match e {
+        LexError::DanglingBlockComment => none(),
+        LexError::Unexpected(c) => one(c),
+        LexError::InvalidStringElement(c) => one(c),
+        LexError::InvalidStringEscape(c) => one(c),
+        LexError::InvalidHexDigit(c) => one(c),
+        LexError::Expected { wanted, found } => two(wanted as usize, found as usize),
+        LexError::UnexpectedEof => none(),
+        LexError::NumberTooBig => none(),
+        LexError::InvalidUnicodeValue(n) => one(n),
+        LexError::LoneUnderscore => none(),
+        LexError::ConfusingUnicode(c) => one(c),
+        LexError::InvalidUtf8Id {
+            valid_up_to,
+            error_len,
+        } => two(valid_up_to, error_len),
+        LexError::EmptyId => none(),
+        LexError::EmptyAnnotation => none(),
+    }
+}
+
+pub fn refusal_values(r: Refusal) -> Values
+    ensures { λ v. ⌜ Carried (number r .1) v ⌝ }
+{
+    match r {
+        Refusal::TooLong => none(),
+        Refusal::NotUtf8 {
+            valid_up_to,
+            error_len,
+        } => two(valid_up_to, error_len),
+        Refusal::PastEnd => none(),
+        Refusal::InsideCharacter => none(),
+        Refusal::Lexical(e) => error_values(e),
+        Refusal::NotThatToken => none(),
+        Refusal::NotThatKind => none(),
+        Refusal::BufferTooShort => none(),
+        Refusal::NoMessage => none(),
     }
 }

@@ -1,7 +1,7 @@
 -- Laws for the loops that measure and write what a whole string stands for. Assumes nothing.
-use Prim.Native.Nat.{ℕ, zero, _+_, _-_, _≤_}
+use Prim.Native.Nat.{ℕ, _+_, _-_, _≤_}
 use mathlib.Core.Path.{_≡_, refl, sym, ap, _∙_}
-use mathlib.Core.List.{List, [], _∷_, _++_}
+use mathlib.Core.List.{List, [], _++_}
 use native.Mathlib.Omega.{arith}
 use native.Mathlib.Nat.{zero-add}
 use lib.ListN.{length, take, drop, length-append, length-drop, take-append-drop}
@@ -9,7 +9,6 @@ use lib.Seq.{length-take-le, drop-drop}
 use Rattle.wat.specs.declared.LexError.{LexError}
 use Rattle.wat.specs.Settings.{lenient}
 use Rattle.wat.specs.StringModel.{quote, read}
-use Rattle.wat.specs.RunModel.{Body, closed, failed}
 use Rattle.utf8.specs.Writing.{Put}
 use Rattle.utf8.proofs.PutLaws.{put-front, put-back, put-length}
 use Rattle.elements.specs.Elements.{Element, Refusal}

@@ -1,3 +1,4 @@
 pub mod RawLaws
 pub mod PassLaws
 pub mod CopyLaws
+pub mod DefinitionLaws

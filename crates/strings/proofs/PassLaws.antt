@@ -1,15 +1,14 @@
 -- Laws of a string that has been read in part: how far the model is there, and what is left of it. Assumes nothing.
 use Prim.Native.Nat.{ℕ, zero, suc, _+_, _-_, _≤_, _<_}
 use mathlib.Core.Path.{_≡_, refl, sym, ap, _∙_}
-use mathlib.Core.List.{List, [], _∷_, _++_, append-assoc, append-nil}
+use mathlib.Core.List.{List, [], _++_, append-assoc, append-nil}
 use native.Mathlib.Omega.{arith}
 use native.Mathlib.Nat.{zero-add, add-assoc}
 use lib.ListN.{length, take, drop, length-drop, length-append, take-append-drop}
 use lib.Seq.{drop-drop, length-take-le}
 use Rattle.wat.specs.declared.LexError.{LexError}
 use Rattle.wat.specs.Settings.{Settings}
-use Rattle.wat.specs.Strings.{Elems}
-use Rattle.wat.specs.StringModel.{element, quote, refused, read}
+use Rattle.wat.specs.StringModel.{quote, refused, read}
 use Rattle.wat.specs.RunModel.{Body, closed, failed, ahead, body}
 use Rattle.wat.proofs.Runs.{elems-body}
 use Rattle.elements.specs.Elements.{Element, Refusal}

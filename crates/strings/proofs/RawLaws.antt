@@ -9,7 +9,7 @@ use native.Mathlib.Omega.{arith}
 use native.Mathlib.Numerals.{add-one, add-two}
 use lib.ListN.{length, getD, take, drop}
 use lib.Seq.{take-add, drop-cons, drop-drop, slice, slice-empty, slice-cons}
-use borrow.Author.Tests.{lt-ltb, le-ltb, eq-eqb, ne-eqb}
+use borrow.Author.Tests.{le-ltb, eq-eqb, ne-eqb}
 use Rattle.wat.specs.Bytes.{between, has}
 use Rattle.wat.specs.Numbers.{digit}
 use Rattle.wat.specs.Settings.{Settings}

@@ -26,110 +26,6 @@ pub enum Body {
     },
 }
 
-// Three fast paths for the loops below. Each leaves to `element` what it does not know.
-
-fn continues(b: u8) -> bool
-    ensures { λ r. ⌜ r ≡ between 0x80 0xBF b ⌝ }
-{
-    (0x80 <= b) & (b <= 0xBF)
-}
-
-// The length of a raw character of two bytes, or of three where it is from U+3000 to U+CFFF: none of these is confusing. 0 for any other.
-fn wide_raw(s: &[u8], at: usize) -> usize
-    requires { ⌜ at < length (now s) ⌝ }
-    ensures { λ r. ⌜ Raw (now (s .entry)) at r ⌝ }
-{
-    let a = s[at];
-    if a < 0xC2 {
-        return 0;
-    }
-    if a < 0xE0 {
-        if s.len() - at < 2 {
-            return 0;
-        }
-        if continues(s[at + 1]) {
-            return 2;
-        }
-        return 0;
-    }
-    if a < 0xE3 {
-        return 0;
-    }
-    if 0xEC < a {
-        return 0;
-    }
-    if s.len() - at < 3 {
-        return 0;
-    }
-    if continues(s[at + 1]) & continues(s[at + 2]) {
-        return 3;
-    }
-    0
-}
-
-// The end of some raw characters from `at` on.
-fn raw_end(s: &[u8], at: usize) -> usize
-    requires { ⌜ at ≤ length (now s) ⌝ }
-    ensures { λ r. ⌜ Raws (now (s .entry)) at r ⌝ }
-{
-    let mut i = at;
-    while i < s.len() {
-        let b = s[i];
-        if b < 0x20 {
-            return i;
-        }
-        if b == b'"' {
-            return i;
-        }
-        if b == b'\\' {
-            return i;
-        }
-        if b < 0x7F {
-            i += 1;
-        } else {
-            let n = wide_raw(s, i);
-            if n == 0 {
-                return i;
-            }
-            i += n;
-        }
-    }
-    i
-}
-
-fn is_hex(b: u8) -> bool
-    ensures { λ r. ⌜ r ≡ digit true b ⌝ }
-{
-    ((b'0' <= b) & (b <= b'9')) | (((b'A' <= b) & (b <= b'F')) | ((b'a' <= b) & (b <= b'f')))
-}
-
-// The value of a digit.
-fn hex_value(b: u8) -> u32
-    ensures { λ r. ⌜ r ≡ b % 16 + 9 * (b / 64) ⌝ }
-{
-    (b as u32) % 16 + 9 * ((b as u32) / 64)
-}
-
-// The byte of the `\hh` at a place, or 256 where none stands. In data any digit follows any other: so both are tested at once, and the value
-// is had by arithmetic, with no branch to be mispredicted.
-fn pair(s: &[u8], at: usize) -> u32
-    requires { ⌜ at ≤ length (now s) ⌝ }
-    ensures { λ r. ⌜ Pairs (drop at (now (s .entry))) r ⌝ }
-{
-    if s.len() - at < 3 {
-        return 256;
-    }
-    if s[at] != b'\\' {
-        return 256;
-    }
-    let h = s[at + 1];
-    let l = s[at + 2];
-    if is_hex(h) & is_hex(l) {
-        return hex_value(h) * 16 + hex_value(l);
-    }
-    256
-}
-
 // The string whose opening quote ends at `at`.
 pub fn parse_str(s: &[u8], at: usize, allow_confusing: bool) -> Body
     requires { ⌜ at ≤ length (now s) ⌝ }
@@ -167,7 +63,7 @@ pub fn parse_str(s: &[u8], at: usize, allow_confusing: bool) -> Body
     }
 }
 
-// Whether the bytes from one place to another have a `\`: a string with none stands for its own bytes.
+// Whether the bytes from one place to another have a `\`: a string that has none stands for the bytes between its quotes.
 pub fn has_escape(s: &[u8], from: usize, to: usize) -> bool
     requires { ⌜ (from ≤ to) × (to ≤ length (now s)) ⌝ }
     ensures { λ r. ⌜ r ≡ has (byte "\\") (slice from to (now (s .entry))) ⌝ }
@@ -182,7 +78,7 @@ pub fn has_escape(s: &[u8], from: usize, to: usize) -> bool
     false
 }
 
-// How many bytes a whole string stands for; its opening quote ends at `at`.
+// How many bytes a whole string stands for.
 pub fn decoded_len(s: &[u8], at: usize) -> usize
     requires { ⌜ (at ≤ length (now s)) × Whole (string lenient (drop at (now s))) ⌝ }
     ensures { λ r. ⌜ r ≡ length (valueOf (string lenient (drop at (now (s .entry))))) ⌝ }
@@ -220,7 +116,7 @@ pub fn decoded_len(s: &[u8], at: usize) -> usize
     }
 }
 
-// The bytes that a whole string stands for, written at the front of a buffer that has the room.
+// The bytes that a whole string stands for, written at the front of a buffer that has the room; how many they are.
 pub fn decode_into(s: &[u8], at: usize, dst: &mut [u8]) -> usize
     requires { ⌜ (at ≤ length (now s)) × Whole (string lenient (drop at (now s))) ⌝ }
     requires { ⌜ length (valueOf (string lenient (drop at (now s)))) ≤ length (now dst) ⌝ }
@@ -261,4 +157,109 @@ pub fn decode_into(s: &[u8], at: usize, dst: &mut [u8]) -> usize
             }
         }
     }
+}
+
+// The fast paths from here on leave to `element` what they do not know.
+
+// The end of some raw characters from `at` on.
+fn raw_end(s: &[u8], at: usize) -> usize
+    requires { ⌜ at ≤ length (now s) ⌝ }
+    ensures { λ r. ⌜ Raws (now (s .entry)) at r ⌝ }
+{
+    let mut i = at;
+    while i < s.len() {
+        let b = s[i];
+        if b < 0x20 {
+            return i;
+        }
+        if b == b'"' {
+            return i;
+        }
+        if b == b'\\' {
+            return i;
+        }
+        if b < 0x7F {
+            i += 1;
+        } else {
+            let n = wide_raw(s, i);
+            if n == 0 {
+                return i;
+            }
+            i += n;
+        }
+    }
+    i
+}
+
+// The length of a raw character of two bytes, or of three where it is from U+3000 to U+CFFF: none of these is confusing. 0 for any other.
+fn wide_raw(s: &[u8], at: usize) -> usize
+    requires { ⌜ at < length (now s) ⌝ }
+    ensures { λ r. ⌜ Raw (now (s .entry)) at r ⌝ }
+{
+    let a = s[at];
+    if a < 0xC2 {
+        return 0;
+    }
+    if a < 0xE0 {
+        if s.len() - at < 2 {
+            return 0;
+        }
+        if continues(s[at + 1]) {
+            return 2;
+        }
+        return 0;
+    }
+    if a < 0xE3 {
+        return 0;
+    }
+    if 0xEC < a {
+        return 0;
+    }
+    if s.len() - at < 3 {
+        return 0;
+    }
+    if continues(s[at + 1]) & continues(s[at + 2]) {
+        return 3;
+    }
+    0
+}
+
+// Whether a byte may be a character's second or third.
+fn continues(b: u8) -> bool
+    ensures { λ r. ⌜ r ≡ between 0x80 0xBF b ⌝ }
+{
+    (0x80 <= b) & (b <= 0xBF)
+}
+
+// The byte of the `\hh` at a place, or 256 where none stands. In data any digit follows any other: so both are tested at once, and the value
+// is had by arithmetic, with no branch to be mispredicted.
+fn pair(s: &[u8], at: usize) -> u32
+    requires { ⌜ at ≤ length (now s) ⌝ }
+    ensures { λ r. ⌜ Pairs (drop at (now (s .entry))) r ⌝ }
+{
+    if s.len() - at < 3 {
+        return 256;
+    }
+    if s[at] != b'\\' {
+        return 256;
+    }
+    let h = s[at + 1];
+    let l = s[at + 2];
+    if is_hex(h) & is_hex(l) {
+        return hex_value(h) * 16 + hex_value(l);
+    }
+    256
+}
+
+fn is_hex(b: u8) -> bool
+    ensures { λ r. ⌜ r ≡ digit true b ⌝ }
+{
+    ((b'0' <= b) & (b <= b'9')) | (((b'A' <= b) & (b <= b'F')) | ((b'a' <= b) & (b <= b'f')))
+}
+
+// The value of a digit: its low four bits, and 9 for a letter.
+fn hex_value(b: u8) -> u32
+    ensures { λ r. ⌜ r ≡ b % 16 + 9 * (b / 64) ⌝ }
+{
+    (b as u32) % 16 + 9 * ((b as u32) / 64)
 }

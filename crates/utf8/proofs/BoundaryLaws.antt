@@ -1,20 +1,21 @@
 -- A character's first byte is none from 0x80 to 0xBF, and its later bytes are: so one byte tells whether a character starts at a place of
 -- a well-formed text. Assumes nothing.
 use Prim.Native.Nat.{ℕ, zero, suc, _+_, _-_, _≤_, _<_}
-use mathlib.Core.Path.{_≡_, refl, sym, ap, _∙_}
+use mathlib.Core.Path.{_≡_, refl}
 use mathlib.Core.Bool.{Bool, true, false}
-use mathlib.Core.List.{List, [], _∷_, _++_}
+use mathlib.Core.List.{List, [], _∷_}
 use mathlib.Core.Logic.{⊎-elim}
 use native.Mathlib.Omega.{arith}
 use lib.Dec.{leb}
 use lib.ListN.{length, getD, drop, length-append, drop-of-length-le, List·getD-append}
 use lib.Seq.{drop-cons, drop-append-add, getD-append-add}
-use borrow.Author.Tests.{leb-true, leb-false}
+use borrow.Author.Tests.{leb-true}
 use Rattle.wat.specs.Utf8.{Range, _‥_, table, Fits, done, next, Char, WellFormed, empty, more}
 use Rattle.wat.specs.Utf8Model.{pick}
 use Rattle.wat.proofs.Utf8Laws.{char-full, pick-both, never}
 use Rattle.wat.proofs.Scalars.{All, all-listed, below}
 use Rattle.wat.proofs.Hexnums.{differ}
+use Rattle.utf8.specs.Following.{Continues}
 use Rattle.utf8.specs.Boundary.{Boundary}
 
 -- the table's ranges
@@ -30,10 +31,6 @@ leading (lo ‥ hi ∷ rs) = pick (pick (leb hi 0x7F) true (leb 0xC0 lo)) (trail
 table-leading : All (λ row. leading row ≡ true) table
 unfolding table
 table-leading = (refl, (refl, (refl, (refl, (refl, (refl, (refl, (refl, (refl, tt)))))))))
-
--- a byte that only continues a character
-abbrev pub Continues : ℕ → Type 0
-Continues b = (0x80 ≤ b) × (b < 0xC0)
 
 fits-trailing : {rs : List Range} {c : List ℕ} → Fits rs c → trailing rs ≡ true → (i : ℕ) → i < length c → Continues (getD c i 0)
 fits-trailing done e i h = absurd (omega arith)

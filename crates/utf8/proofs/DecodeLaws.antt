@@ -1,15 +1,15 @@
 -- Laws for the code that decodes the character at a place. Assumes nothing.
-use Prim.Native.Nat.{ℕ, zero, suc, _+_, _-_, _≤_, _<_}
+use Prim.Native.Nat.{ℕ, suc, _+_, _-_, _≤_, _<_}
 use mathlib.Core.Path.{_≡_, refl, sym, ap, _∙_}
-use mathlib.Core.Logic.{_⊎_, inl, inr, ⊎-elim}
+use mathlib.Core.Logic.{⊎-elim}
 use mathlib.Core.List.{List, [], _∷_, _++_}
 use native.Mathlib.Omega.{arith}
-use lib.ListN.{length, getD, take, drop, length-append, length-drop, drop-of-length-le, take-append-drop}
-use lib.Seq.{take-append-seam, drop-drop, length-take-le}
-use Rattle.wat.specs.Utf8.{Range, table, Char, scalar}
+use lib.ListN.{length, getD, take, drop, length-append, length-drop, drop-of-length-le}
+use lib.Seq.{take-append-seam, drop-cons, drop-drop, length-take-le}
+use Rattle.wat.specs.Utf8.{Range, _‥_, table, Fits, next, Char, WellFormed, empty, more, scalar}
 use Rattle.wat.specs.Utf8Model.{Front, Whole, Wrong, Cut, front}
-use Rattle.wat.specs.StringModel.{char, nothing, peek, peekBy}
-use Rattle.wat.proofs.Utf8Laws.{View, whole, cut, wrong, viewed, char-full, fits-length}
+use Rattle.wat.specs.StringModel.{nothing, peek}
+use Rattle.wat.proofs.Utf8Laws.{View, whole, cut, wrong, viewed, char-full, char-front, fits-length}
 use Rattle.wat.proofs.Scalars.{All, all-listed, char-right, scalar-split}
 use Rattle.wat.proofs.Hexnums.{differ}
 use Rattle.utf8.specs.Decoding.{Character}
@@ -30,18 +30,18 @@ pub char-small : (c : List ℕ) → Char c → scalar c < 0x110000
 char-small c ch = ⊎-elim (λ h. omega arith) (λ h. omega arith) (scalar-split (scalar c) (char-right c ch .1))
 
 -- a character at the front
-pub record Front-char (t : List ℕ) (n : ℕ) : Type 0 where
+pub record FrontChar (t : List ℕ) (n : ℕ) : Type 0 where
   pub is : Char (take n t)
   pub some : 1 ≤ n
   pub few : n ≤ 4
   pub fits : n ≤ length t
 
-pub front-char : (t : List ℕ) (n : ℕ) → front t ≡ Whole n → Front-char t n
+pub front-char : (t : List ℕ) (n : ℕ) → front t ≡ Whole n → FrontChar t n
 unfolding front
 front-char [] n h = differ (cc)
 front-char (b ∷ t) n h = go h (viewed b t)
   where
-    go : {f : Front} → f ≡ Whole n → View (b ∷ t) f → Front-char (b ∷ t) n
+    go : {f : Front} → f ≡ Whole n → View (b ∷ t) f → FrontChar (b ∷ t) n
     go h (whole c u e ch x) =
         let l : n ≡ length c = cc in
         record {
@@ -52,6 +52,8 @@ front-char (b ∷ t) n h = go h (viewed b t)
         }
     go h (cut i nc x) = differ (cc)
     go h (wrong j r nc x) = differ (cc)
+
+-- what the front says of `peek`
 
 pub decoded-char : (s : List ℕ) (at v n : ℕ) → at ≤ length s → front (drop at s) ≡ Whole n → v ≡ scalar (take n (drop at s)) → Character s at v n
 unfolding peek
@@ -79,3 +81,41 @@ decoded-cut t e = rw e
 pub decoded-end : (s : List ℕ) (at : ℕ) → length s ≤ at → peek (drop at s) ≡ nothing
 unfolding peek front
 decoded-end s at h = rw (drop-of-length-le s h)
+
+-- a character's first byte says how many follow
+
+abbrev Width : ℕ → ℕ → Type 0
+Width b n = (b < 0x80 → n ≡ 0) × (0x80 ≤ b → b < 0xE0 → n ≡ 1) × (0xE0 ≤ b → b < 0xF0 → n ≡ 2) × (0xF0 ≤ b → n ≡ 3)
+
+abbrev Sized : List Range → Type 0
+Sized [] = Unit {0}
+Sized (lo ‥ hi ∷ rs) = (b : ℕ) → lo ≤ b → b ≤ hi → Width b (length rs)
+
+rows-sized : All Sized table
+unfolding table
+rows-sized = (
+  λ b l h. omega arith,
+  (λ b l h. omega arith, (λ b l h. omega arith, (λ b l h. omega arith, (λ b l h. omega arith, (λ b l h. omega arith, (λ b l h. omega arith, (λ b l h. omega arith, (λ b l h. omega arith, tt)))))))),
+)
+
+char-width : (b : ℕ) (c : List ℕ) → Char (b ∷ c) → Width b (length c)
+char-width b c ch = go (ch .fits) (all-listed Sized table rows-sized (ch .listed))
+  where
+    go : {row : List Range} → Fits row (b ∷ c) → Sized row → Width b (length c)
+    go (next l h f) w = rw (fits-length f) (w b l h)
+
+-- the character at a place of a well-formed text, if n is one more than the bytes that follow
+
+pub well-formed-char :
+    (s : List ℕ) (at n : ℕ) → at < length s → WellFormed (drop at s) → ((k : ℕ) → Width (getD s at 0) k → suc k ≡ n)
+    → Character s at (scalar (take n (drop at s))) n
+well-formed-char s at n h g f = go g refl
+  where
+    go : {t : List ℕ} → WellFormed t → t ≡ drop at s → Character s at (scalar (take n (drop at s))) n
+    go empty e = absurd (omega (arith, length-drop at s, ap length e))
+    go (more {c = []} ch w) e = absurd (char-full ch)
+    go (more {c = b ∷ c} {t = u} ch w) e =
+        let q : b ∷ (c ++ u) ≡ getD s at 0 ∷ drop (suc at) s = e ∙ drop-cons s at 0 h in
+        let p : b ≡ getD s at 0 = cc in
+        let l : length (b ∷ c) ≡ n = f (length c) (rw (← p) (char-width b c ch)) in
+        decoded-char s at (scalar (take n (drop at s))) n (omega arith) (ap front (sym e) ∙ char-front (b ∷ c) u ch ∙ ap Whole l) refl

@@ -1,101 +1,76 @@
 -- Laws for the code that holds a place's bytes against the table's ranges. Assumes nothing.
-use Prim.Native.Nat.{ℕ, suc, _+_, _≤_, _<_}
-use mathlib.Core.Path.{_≡_, refl, sym}
+use Prim.Native.Nat.{ℕ, suc, _+_, _-_, _≤_, _<_}
+use mathlib.Core.Path.{_≡_, refl, ap}
 use mathlib.Core.List.{List, [], _∷_}
-use mathlib.Core.Option.{Option}
+use mathlib.Core.Option.{Option, none, some}
 use mathlib.Core.Bool.{Bool, true, false}
 use native.Mathlib.Omega.{arith}
 use native.Mathlib.Numerals.{add-one}
-use lib.Dec.{leb, ltb}
+use lib.Dec.{leb}
 use lib.ListN.{length, getD, drop, drop-of-length-le}
 use lib.Seq.{drop-cons}
-use borrow.Author.Tests.{lt-leb, ltb-true, ltb-false}
+use borrow.Author.Tests.{lt-leb}
 use Rattle.wat.specs.Utf8.{Range, _‥_, table}
-use Rattle.wat.specs.Utf8Model.{Wrong, Cut, pick, has, find, follow, start, front}
-use Rattle.wat.proofs.Utf8Laws.{has-in}
-use Rattle.wat.proofs.Hexnums.{differ}
-use Rattle.utf8.specs.Fronts.{seenOf}
-use Rattle.utf8.specs.declared.Seen.the-variants.{In, Out, End}
+use Rattle.wat.specs.Utf8Model.{Whole, Wrong, Cut, pick, has, find, follow, start, front}
+use Rattle.wat.proofs.Utf8Laws.{row-at, Outside, no-row}
+use Rattle.utf8.specs.Fronts.{trailing}
 
 -- a byte against a range
 
-pub seen-end : (s : List ℕ) (i : ℕ) (r : Range) → length s ≤ i → End ≡ seenOf (drop i s) r
-unfolding seenOf
-seen-end s i r h = rw (drop-of-length-le s h)
-
-has-under : (lo hi b : ℕ) → b < lo → has (lo ‥ hi) b ≡ false
+pub has-under : (lo hi b : ℕ) → b < lo → has (lo ‥ hi) b ≡ false
 has-under lo hi b h = rw (lt-leb lo b h)
 
-has-over : (lo hi b : ℕ) → hi < b → has (lo ‥ hi) b ≡ false
+pub has-over : (lo hi b : ℕ) → hi < b → has (lo ‥ hi) b ≡ false
 has-over lo hi b h = go (leb lo b)
   where
     go : (x : Bool) → pick x (leb b hi) false ≡ false
     go true = lt-leb b hi h
     go false = refl
 
-module _ (s : List ℕ) (i lo hi : ℕ) (h : i < length s) where
-  pub seen-under : getD s i 0 < lo → Out ≡ seenOf (drop i s) (lo ‥ hi)
-  unfolding seenOf
-  seen-under l = rw (drop-cons s i 0 h, has-under lo hi (getD s i 0) l)
-
-  pub seen-over : hi < getD s i 0 → Out ≡ seenOf (drop i s) (lo ‥ hi)
-  unfolding seenOf
-  seen-over l = rw (drop-cons s i 0 h, has-over lo hi (getD s i 0) l)
-
-  pub seen-in : lo ≤ getD s i 0 → getD s i 0 ≤ hi → In ≡ seenOf (drop i s) (lo ‥ hi)
-  unfolding seenOf
-  seen-in l k = rw (drop-cons s i 0 h, has-in lo hi (getD s i 0) l k)
-
 -- one range more, after k bytes that fit
 
-module _ (k : ℕ) (r : Range) (rs : List Range) (s : List ℕ) (i : ℕ) where
-  pub seen-within : seenOf (drop i s) r ≡ In → i < length s
-  unfolding seenOf
-  seen-within e = go (ltb i (length s)) refl
-    where
-      go : (x : Bool) → ltb i (length s) ≡ x → i < length s
-      go true h = ltb-true i (length s) h
-      go false h =
-          let d : drop i s ≡ [] = drop-of-length-le s (ltb-false i (length s) h) in
-          let e′ : seenOf [] r ≡ In = rw d at e in
-          differ (cc)
+module _ (s : List ℕ) (i k : ℕ) where
+  pub follow-cut : (r : Range) (rs : List Range) → length s ≤ i → follow k (r ∷ rs) (drop i s) ≡ Cut
+  follow-cut r rs h = rw (drop-of-length-le s h)
 
-  pub follow-in : seenOf (drop i s) r ≡ In → follow k (r ∷ rs) (drop i s) ≡ follow (k + 1) rs (drop (i + 1) s)
-  unfolding seenOf
-  follow-in e =
-      let h = seen-within e in
-      let d = drop-cons s i 0 h in
-      rw (d, add-one k, add-one i) (go (has r (getD s i 0)) (rw d at e))
-    where
-      go : (x : Bool) → pick x In Out ≡ In → pick x (follow (suc k) rs (drop (suc i) s)) (Wrong k) ≡ follow (suc k) rs (drop (suc i) s)
-      go true q = refl
-      go false q = differ (cc)
+  pub follow-out : (r : Range) (rs : List Range) → i < length s → has r (getD s i 0) ≡ false → follow k (r ∷ rs) (drop i s) ≡ Wrong k
+  follow-out r rs h e = rw (drop-cons s i 0 h, e)
 
-  pub follow-out : seenOf (drop i s) r ≡ Out → follow k (r ∷ rs) (drop i s) ≡ Wrong k
-  unfolding seenOf
-  follow-out = go (drop i s)
-    where
-      at : (t : List ℕ) (x : Bool) → pick x In Out ≡ Out → pick x (follow (suc k) rs t) (Wrong k) ≡ Wrong k
-      at t true q = differ (cc)
-      at t false q = refl
+  pub follow-in :
+      (r : Range) (rs : List Range) (j : ℕ) → j ≡ i + 1 → i < length s → has r (getD s i 0) ≡ true → follow k (r ∷ rs) (drop i s) ≡ follow (suc k) rs (drop j s)
+  follow-in r rs j q h e = rw (drop-cons s i 0 h, e, q, add-one i)
 
-      go : (t : List ℕ) → seenOf t r ≡ Out → follow k (r ∷ rs) t ≡ Wrong k
-      go [] q = differ (cc)
-      go (b ∷ t) q = at t (has r b) q
+  -- the same with one of the last ranges of a row
 
-  pub follow-end : seenOf (drop i s) r ≡ End → follow k (r ∷ rs) (drop i s) ≡ Cut
-  unfolding seenOf
-  follow-end = go (drop i s)
-    where
-      at : {A : Type 0} (x : Bool) → pick x In Out ≡ End → A
-      at true q = differ (cc)
-      at false q = differ (cc)
+  module _ (n : ℕ) (some : 0 < n) where
+    split : trailing n ≡ 0x80 ‥ 0xBF ∷ trailing (n - 1)
+    split = let e : n ≡ suc (n - 1) = omega arith in ap trailing e
 
-      go : (t : List ℕ) → seenOf t r ≡ End → follow k (r ∷ rs) t ≡ Cut
-      go [] q = refl
-      go (b ∷ t) q = at (has r b) q
+    pub trail-cut : length s ≤ i → follow k (trailing n) (drop i s) ≡ Cut
+    trail-cut h = rw split (follow-cut (0x80 ‥ 0xBF) (trailing (n - 1)) h)
+
+    pub trail-out : i < length s → has (0x80 ‥ 0xBF) (getD s i 0) ≡ false → follow k (trailing n) (drop i s) ≡ Wrong k
+    trail-out h e = rw split (follow-out (0x80 ‥ 0xBF) (trailing (n - 1)) h e)
+
+    pub trail-in :
+        (j : ℕ) → j ≡ i + 1 → i < length s → has (0x80 ‥ 0xBF) (getD s i 0) ≡ true
+        → follow k (trailing n) (drop i s) ≡ follow (suc k) (trailing (n - 1)) (drop j s)
+    trail-in j q h e = rw split (follow-in (0x80 ‥ 0xBF) (trailing (n - 1)) j q h e)
+
+pub trail-end : (k n : ℕ) (t : List ℕ) → n ≡ 0 → follow k (trailing n) t ≡ Whole k
+trail-end k n t e = rw e
 
 -- the first byte's row, and then the bytes after it
-pub front-row : (s : List ℕ) (i : ℕ) (o : Option (List Range)) → i < length s → find table (getD s i 0) ≡ o → front (drop i s) ≡ start o (drop (i + 1) s)
-unfolding front
-front-row s i o h e = rw (add-one i, drop-cons s i 0 h, e)
+
+module _ (s : List ℕ) (i : ℕ) (h : i < length s) where
+  by-row : (o : Option (List Range)) → find table (getD s i 0) ≡ o → front (drop i s) ≡ start o (drop (i + 1) s)
+  unfolding front
+  by-row o e = rw (add-one i, drop-cons s i 0 h, e)
+
+  pub front-row :
+      (k lo hi : ℕ) (rs : List Range) → k < length table → getD table k [] ≡ (lo ‥ hi ∷ rs) → lo ≤ getD s i 0 → getD s i 0 ≤ hi
+      → front (drop i s) ≡ follow 1 rs (drop (i + 1) s)
+  front-row k lo hi rs l e a b = by-row (some rs) (row-at k lo hi (getD s i 0) rs l e a b)
+
+  pub front-none : Outside (getD s i 0) table → front (drop i s) ≡ Wrong 1
+  front-none o = by-row none (no-row table (getD s i 0) o)

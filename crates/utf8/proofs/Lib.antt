@@ -1,7 +1,9 @@
-pub mod FollowLaws
-pub mod ScalarLaws
 pub mod DecodeLaws
 pub mod ScanLaws
-pub mod PutLaws
-pub mod EncodeLaws
 pub mod BoundaryLaws
+pub mod PutLaws
+mod ScalarLaws
+mod FollowLaws
+mod FollowingLaws
+mod ResumeLaws
+pub mod EncodeLaws

@@ -1,6 +1,6 @@
 -- Laws of what is written into a lent buffer: what stands where, and that one write after another is one write. Assumes nothing.
 use Prim.Native.Nat.{ℕ, _+_, _≤_, _<_}
-use mathlib.Core.Path.{_≡_, refl, sym, ap, _∙_}
+use mathlib.Core.Path.{_≡_, sym, ap, _∙_}
 use mathlib.Core.List.{List, [], _∷_, _++_, append-assoc}
 use native.Mathlib.Omega.{arith}
 use native.Mathlib.Numerals.{add-one}
@@ -57,3 +57,9 @@ module _ (d e : List ℕ) (to : ℕ) (v : List ℕ) (p : Put d e to v) where
         fits = omega (arith, q .fits, put-length);
         is = q .is ∙ rw (n, a, put-front, append-assoc (take to d) v w);
       }
+
+  -- one byte more
+  pub put-byte : (i b : ℕ) → i ≡ to + length v → i < length d → Put d (set e i b) to (v ++ (b ∷ []))
+  put-byte i b q h =
+      let l : to + length v < length e = omega (arith, put-length) in
+      put-then (set e i b) (b ∷ []) (rw q (put-one e (to + length v) b l))

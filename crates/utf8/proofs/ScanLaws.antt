@@ -1,16 +1,17 @@
 -- Laws for the code that checks a text from a place on. Assumes nothing.
 use Prim.Native.Nat.{ℕ, zero, suc, pred, _+_, _≤_, _<_}
-use mathlib.Core.Path.{_≡_, refl, sym, ap, _∙_}
+use mathlib.Core.Path.{_≡_, refl, ap, _∙_}
 use mathlib.Core.List.{List, [], _∷_}
 use native.Mathlib.Omega.{arith}
 use native.Mathlib.Nat.{add-zero}
-use lib.ListN.{length, drop, length-drop, drop-of-length-le}
+use lib.ListN.{length, getD, drop, drop-of-length-le}
 use lib.Seq.{drop-cons, drop-drop}
 use Rattle.wat.specs.Utf8.{Says}
-use Rattle.wat.specs.Utf8Model.{Front, Whole, Wrong, Cut, front, verdict, scan, checked}
+use Rattle.wat.specs.Utf8Model.{Whole, Wrong, Cut, front, verdict, scan, checked}
 use Rattle.wat.specs.declared.Checked.{Checked}
 use Rattle.wat.specs.declared.Checked.the-variants.{Ok, Bad}
-use Rattle.wat.proofs.Utf8Laws.{checked-says, says-one}
+use Rattle.wat.proofs.Utf8Laws.{char-front, checked-says, says-one}
+use Rattle.wat.proofs.Scalars.{ascii}
 use Rattle.utf8.proofs.DecodeLaws.{front-char}
 
 scan-skip : (at k : ℕ) (t : List ℕ) → scan at k t ≡ scan (at + k) 0 (drop k t)
@@ -29,6 +30,9 @@ module _ (s : List ℕ) (i : ℕ) (h : i < length s) where
       let z = front-char (drop i s) n e in
       let q : suc i + pred n ≡ i + n = omega arith in
       scan-here s i h ∙ rw e (scan-skip (suc i) (pred n) (drop (suc i) s) ∙ rw (drop-drop (pred n) (suc i) s, q))
+
+  pub scan-ascii : getD s i 0 < 0x80 → scan i 0 (drop i s) ≡ scan (i + 1) 0 (drop (i + 1) s)
+  scan-ascii l = scan-whole 1 (ap front (drop-cons s i 0 h) ∙ char-front (getD s i 0 ∷ []) (drop (suc i) s) (ascii (getD s i 0) l))
 
   pub scan-wrong : (k : ℕ) → front (drop i s) ≡ Wrong k → scan i 0 (drop i s) ≡ Bad i k
   scan-wrong k e = scan-here s i h ∙ rw e

@@ -2,17 +2,19 @@
 // said by the Unicode Standard's table of well-formed sequences, `wat/specs/Utf8.antt`.
 
 ghost use mathlib.Core.Path.{_≡_};
-ghost use mathlib.Core.List.{[], _∷_};
-ghost use Prim.Native.Nat.{ℕ, _+_, _≤_, _<_};
+ghost use mathlib.Core.List.{_∷_};
+ghost use Prim.Native.Nat.{_+_, _/_, _%_, _≤_, _<_};
 ghost use lib.ListN.{length, getD, take, drop};
-ghost use Rattle.wat.specs.Utf8.{table, _‥_, scalar, WellFormed, Says};
-ghost use Rattle.wat.specs.Utf8Model.{find, follow, front, scan};
+ghost use Rattle.wat.specs.Utf8.{_‥_, scalar, WellFormed, Says};
+ghost use Rattle.wat.specs.Utf8Model.{has, follow, front};
 ghost use Rattle.wat.specs.StringModel.{encode};
-ghost use Rattle.utf8.specs.Decoding.{Decodes};
-ghost use Rattle.utf8.specs.Fronts.{rowOf, seenOf, frontOf};
+ghost use Rattle.utf8.specs.Decoding.{Character, Decodes};
+ghost use Rattle.utf8.specs.Fronts.{trailing, frontOf};
 ghost use Rattle.utf8.specs.Boundary.{Boundary};
 ghost use Rattle.utf8.specs.Writing.{Put, Encoded};
 use wat::Checked;
+
+mod blocks;
 
 // What stands at a place: a character of so many bytes, a wrong start of so many, or the start of a character that the text cuts off.
 pub enum Front {
@@ -27,126 +29,109 @@ pub enum Decoded {
     Nothing,
 }
 
-// What a first byte asks of the bytes after it. The second byte's range is the row's own; later bytes are from 0x80 to 0xBF.
-enum Lead {
-    Never,
-    Alone,
-    Two,
-    Three(u8, u8),
-    Four(u8, u8),
-}
-
-// A byte against a range, or the end of the text.
-enum Seen {
-    In,
-    Out,
-    End,
-}
-
-fn row_of(a: u8) -> Lead
-    ensures { λ r. ⌜ find table a ≡ rowOf r ⌝ }
+fn within(b: u8, lo: u8, hi: u8) -> bool
+    ensures { λ r. ⌜ r ≡ has (lo ‥ hi) b ⌝ }
 {
-    if a < 0x80 {
-        return Lead::Alone;
-    }
-    if a < 0xC2 {
-        return Lead::Never;
-    }
-    if a < 0xE0 {
-        return Lead::Two;
-    }
-    if a < 0xE1 {
-        return Lead::Three(0xA0, 0xBF);
-    }
-    if a < 0xED {
-        return Lead::Three(0x80, 0xBF);
-    }
-    if a < 0xEE {
-        return Lead::Three(0x80, 0x9F);
-    }
-    if a < 0xF0 {
-        return Lead::Three(0x80, 0xBF);
-    }
-    if a < 0xF1 {
-        return Lead::Four(0x90, 0xBF);
-    }
-    if a < 0xF4 {
-        return Lead::Four(0x80, 0xBF);
-    }
-    if a < 0xF5 {
-        return Lead::Four(0x80, 0x8F);
-    }
-    Lead::Never
-}
-
-fn see(s: &[u8], i: usize, lo: u8, hi: u8) -> Seen
-    ensures { λ r. ⌜ r ≡ seenOf (drop i (now (s .entry))) (lo ‥ hi) ⌝ }
-{
-    if i >= s.len() {
-        return Seen::End;
-    }
-    let b = s[i];
     if b < lo {
-        return Seen::Out;
+        return false;
     }
     if hi < b {
-        return Seen::Out;
+        return false;
     }
-    Seen::In
+    true
 }
 
-// One byte more, two, or three, after k that fit.
-fn follow1(s: &[u8], i: usize, k: usize, lo: u8, hi: u8) -> Front
-    requires { ⌜ k < 8 ⌝ }
-    ensures { λ r. ⌜ frontOf r ≡ follow k (lo ‥ hi ∷ []) (drop i (now (s .entry))) ⌝ }
+// The third byte of a character, and the fourth if n is 2.
+fn last_at(s: &[u8], at: usize, n: usize) -> Front
+    requires { ⌜ (at < length (now s)) × (1 ≤ n) × (n ≤ 2) ⌝ }
+    ensures { λ r. ⌜ frontOf r ≡ follow 2 (trailing n) (drop (at + 2) (now (s .entry))) ⌝ }
 {
-    match see(s, i, lo, hi) {
-        Seen::In => Front::Whole(k + 1),
-        Seen::Out => Front::Wrong(k),
-        Seen::End => Front::Cut,
+    if s.len() - at <= 2 {
+        return Front::Cut;
     }
+    if !within(s[at + 2], 0x80, 0xBF) {
+        return Front::Wrong(2);
+    }
+    if n == 1 {
+        return Front::Whole(3);
+    }
+    if s.len() - at <= 3 {
+        return Front::Cut;
+    }
+    if !within(s[at + 3], 0x80, 0xBF) {
+        return Front::Wrong(3);
+    }
+    Front::Whole(4)
 }
 
-fn follow2(s: &[u8], i: usize, k: usize, lo: u8, hi: u8) -> Front
-    requires { ⌜ k < 7 ⌝ }
-    ensures { λ r. ⌜ frontOf r ≡ follow k (lo ‥ hi ∷ 0x80 ‥ 0xBF ∷ []) (drop i (now (s .entry))) ⌝ }
+// The bytes after the first: one in a range, and then n from 0x80 to 0xBF.
+fn rest_at(s: &[u8], at: usize, lo: u8, hi: u8, n: usize) -> Front
+    requires { ⌜ (at < length (now s)) × (n ≤ 2) ⌝ }
+    ensures { λ r. ⌜ frontOf r ≡ follow 1 (lo ‥ hi ∷ trailing n) (drop (at + 1) (now (s .entry))) ⌝ }
 {
-    match see(s, i, lo, hi) {
-        Seen::In => follow1(s, i + 1, k + 1, 0x80, 0xBF),
-        Seen::Out => Front::Wrong(k),
-        Seen::End => Front::Cut,
+    if s.len() - at <= 1 {
+        return Front::Cut;
     }
+    if !within(s[at + 1], lo, hi) {
+        return Front::Wrong(1);
+    }
+    if n == 0 {
+        return Front::Whole(2);
+    }
+    last_at(s, at, n)
 }
 
-fn follow3(s: &[u8], i: usize, k: usize, lo: u8, hi: u8) -> Front
-    requires { ⌜ k < 6 ⌝ }
-    ensures { λ r. ⌜ frontOf r ≡ follow k (lo ‥ hi ∷ 0x80 ‥ 0xBF ∷ 0x80 ‥ 0xBF ∷ []) (drop i (now (s .entry))) ⌝ }
-{
-    match see(s, i, lo, hi) {
-        Seen::In => follow2(s, i + 1, k + 1, 0x80, 0xBF),
-        Seen::Out => Front::Wrong(k),
-        Seen::End => Front::Cut,
-    }
-}
-
+// What stands at a place, by the rows of the table.
 pub fn front_at(s: &[u8], at: usize) -> Front
     requires { ⌜ at < length (now s) ⌝ }
     ensures { λ r. ⌜ frontOf r ≡ front (drop at (now (s .entry))) ⌝ }
 {
     let a = s[at];
-    match row_of(a) {
-        Lead::Never => Front::Wrong(1),
-        Lead::Alone => Front::Whole(1),
-        Lead::Two => follow1(s, at + 1, 1, 0x80, 0xBF),
-        Lead::Three(lo, hi) => follow2(s, at + 1, 1, lo, hi),
-        Lead::Four(lo, hi) => follow3(s, at + 1, 1, lo, hi),
+    if a < 0x80 {
+        return Front::Whole(1);
     }
+    if a < 0xC2 {
+        return Front::Wrong(1);
+    }
+    if a < 0xE0 {
+        return rest_at(s, at, 0x80, 0xBF, 0);
+    }
+    if a < 0xE1 {
+        return rest_at(s, at, 0xA0, 0xBF, 1);
+    }
+    if a < 0xED {
+        return rest_at(s, at, 0x80, 0xBF, 1);
+    }
+    if a < 0xEE {
+        return rest_at(s, at, 0x80, 0x9F, 1);
+    }
+    if a < 0xF0 {
+        return rest_at(s, at, 0x80, 0xBF, 1);
+    }
+    if a < 0xF1 {
+        return rest_at(s, at, 0x90, 0xBF, 2);
+    }
+    if a < 0xF4 {
+        return rest_at(s, at, 0x80, 0xBF, 2);
+    }
+    if a < 0xF5 {
+        return rest_at(s, at, 0x80, 0x8F, 2);
+    }
+    Front::Wrong(1)
 }
 
 fn wide(x: u8) -> u32
     ensures { λ r. ⌜ r ≡ x ⌝ }
 {
     x as u32
+}
+
+// The six bits that a byte after the first has of a scalar value.
+fn six_bits(s: &[u8], at: usize) -> u32
+    requires { ⌜ at < length (now s) ⌝ }
+    ensures { λ r. ⌜ r ≡ getD (now (s .entry)) at 0 % 0x40 ⌝ }
+{
+    wide(s[at]) % 0x40
 }
 
 // The scalar value of the character of n bytes at a place.
@@ -158,15 +143,15 @@ pub fn value(s: &[u8], at: usize, n: usize) -> u32
     if n == 1 {
         return a;
     }
-    let b = wide(s[at + 1]) % 0x40;
+    let b = six_bits(s, at + 1);
     if n == 2 {
         return (a % 0x20) * 0x40 + b;
     }
-    let c = wide(s[at + 2]) % 0x40;
+    let c = six_bits(s, at + 2);
     if n == 3 {
         return (a % 0x10) * 0x1000 + b * 0x40 + c;
     }
-    let d = wide(s[at + 3]) % 0x40;
+    let d = six_bits(s, at + 3);
     (a % 0x08) * 0x40000 + b * 0x1000 + c * 0x40 + d
 }
 
@@ -187,39 +172,53 @@ pub fn decode(s: &[u8], at: usize) -> Decoded
     }
 }
 
-// The check from a place on at which a character starts.
-fn check_from(s: &[u8], at: usize) -> Checked
-    requires { ⌜ at ≤ length (now s) ⌝ }
-    ensures { λ r. ⌜ r ≡ scan at 0 (drop at (now (s .entry))) ⌝ }
+// How many bytes the character at a place of a well-formed text has: its first byte says it.
+pub fn width_at(s: &[u8], at: usize) -> usize
+    requires { ⌜ (at < length (now s)) × WellFormed (drop at (now s)) ⌝ }
+    ensures { λ r. ⌜ Character (now (s .entry)) at (scalar (take r (drop at (now (s .entry))))) r ⌝ }
 {
-    let mut i = at;
+    let b = s[at];
+    if b < 0x80 {
+        return 1;
+    }
+    if b < 0xE0 {
+        return 2;
+    }
+    if b < 0xF0 {
+        return 3;
+    }
+    4
+}
+
+// Whether a text is well formed, or where it goes wrong, as `std::str::from_utf8` says. What the blocks leave is checked by characters.
+pub fn check(s: &[u8]) -> Checked
+    ensures { λ r. ⌜ Says (now (s .entry)) r ⌝ }
+{
+    let mut i = blocks::pass(s);
     while i < s.len() {
-        match front_at(s, i) {
-            Front::Whole(n) => {
-                i += n;
-            }
-            Front::Wrong(k) => {
-                return Checked::Bad {
-                    valid_up_to: i,
-                    error_len: k,
-                };
-            }
-            Front::Cut => {
-                return Checked::Bad {
-                    valid_up_to: i,
-                    error_len: 0,
-                };
+        if s[i] < 0x80 {
+            i += 1;
+        } else {
+            match front_at(s, i) {
+                Front::Whole(n) => {
+                    i += n;
+                }
+                Front::Wrong(k) => {
+                    return Checked::Bad {
+                        valid_up_to: i,
+                        error_len: k,
+                    };
+                }
+                Front::Cut => {
+                    return Checked::Bad {
+                        valid_up_to: i,
+                        error_len: 0,
+                    };
+                }
             }
         }
     }
     Checked::Ok
-}
-
-// Whether a text is well formed, or where it goes wrong, as `std::str::from_utf8` says.
-pub fn check(s: &[u8]) -> Checked
-    ensures { λ r. ⌜ Says (now (s .entry)) r ⌝ }
-{
-    check_from(s, 0)
 }
 
 // Whether a character of a well-formed text starts at a place, or the text ends there.
@@ -263,6 +262,13 @@ fn low(x: u32) -> u8
     x as u8
 }
 
+// A byte after the first, with the last six bits of x.
+fn six_byte(x: u32) -> u8
+    ensures { λ r. ⌜ r ≡ 0x80 + x % 0x40 ⌝ }
+{
+    low(0x80 + x % 0x40)
+}
+
 // The bytes of a scalar value, written at a place of a buffer that has the room; how many they are.
 pub fn encode_utf8(dst: &mut [u8], to: usize, v: u32) -> usize
     requires { ⌜ (v < 0x110000) × (to + length (encode v) ≤ length (now dst)) ⌝ }
@@ -274,19 +280,19 @@ pub fn encode_utf8(dst: &mut [u8], to: usize, v: u32) -> usize
     }
     if v < 0x800 {
         dst[to] = low(0xC0 + v / 0x40);
-        dst[to + 1] = low(0x80 + v % 0x40);
+        dst[to + 1] = six_byte(v);
         return 2;
     }
     if v < 0x10000 {
         dst[to] = low(0xE0 + v / 0x1000);
-        dst[to + 1] = low(0x80 + v / 0x40 % 0x40);
-        dst[to + 2] = low(0x80 + v % 0x40);
+        dst[to + 1] = six_byte(v / 0x40);
+        dst[to + 2] = six_byte(v);
         return 3;
     }
     dst[to] = low(0xF0 + v / 0x40000);
-    dst[to + 1] = low(0x80 + v / 0x1000 % 0x40);
-    dst[to + 2] = low(0x80 + v / 0x40 % 0x40);
-    dst[to + 3] = low(0x80 + v % 0x40);
+    dst[to + 1] = six_byte(v / 0x1000);
+    dst[to + 2] = six_byte(v / 0x40);
+    dst[to + 3] = six_byte(v);
     4
 }
 

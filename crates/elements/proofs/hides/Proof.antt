@@ -1,5 +1,4 @@
 -- `elements::hides` is the model's. Assumes nothing.
-use mathlib.Core.Path.{refl}
 use borrow.Author.Needs.{needs}
 use Rattle.wat.specs.StringModel.{hides}
 use Rattle.elements.proofs.hides.Statement.{statement}

@@ -2,8 +2,7 @@
 use Prim.Native.Nat.{_-_, _≤_}
 use mathlib.Core.Path.{_≡_, refl, sym, _∙_}
 use native.Mathlib.Omega.{arith}
-use lib.ListN.{length}
-use lib.Seq.{slice, slice-empty}
+use lib.Seq.{slice}
 use Rattle.wat.specs.Bytes.{byte, has}
 use Rattle.strings.proofs.RawLaws.{has-here, has-next, has-none}
 use Rattle.strings.proofs.has_escape.Statement.{statement}

@@ -1,5 +1,5 @@
 -- `strings::pair` meets its contract: 256 says nothing, and less is the byte of two digits. Assumes nothing.
-use Prim.Native.Nat.{_+_, _*_, _/_, _%_}
+use Prim.Native.Nat.{_+_}
 use mathlib.Core.Path.{sym, _∙_}
 use native.Mathlib.Omega.{arith}
 use borrow.Author.Needs.{needs}

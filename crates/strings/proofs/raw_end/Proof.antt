@@ -1,5 +1,5 @@
 -- `strings::raw_end` meets its contract: each character passed stands for itself. Assumes nothing.
-use Prim.Native.Nat.{_-_, _≤_}
+use Prim.Native.Nat.{_-_}
 use native.Mathlib.Omega.{arith}
 use lib.ListN.{length}
 use Rattle.strings.specs.Raw.{Raws}

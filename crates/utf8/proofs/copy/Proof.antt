@@ -1,5 +1,5 @@
 -- `utf8::copy` meets its contract. The loop's invariant: the first k bytes of what is to be copied stand in the buffer. Assumes nothing.
-use Prim.Native.Nat.{_+_, _-_, _≤_}
+use Prim.Native.Nat.{_-_, _≤_}
 use mathlib.Core.Path.{_≡_, ap, _∙_}
 use native.Mathlib.Omega.{arith}
 use lib.ListN.{length, drop, length-set, length-drop}

@@ -12,7 +12,7 @@ returns : tie.Need-returns
 returns c = decoded-end _ _ (c .if1 .taken)
 
 front-at-requires : tie.Need-front-at-requires
-front-at-requires c κs = search needs
+front-at-requires c κs = omega arith
 
 enum-known-n : tie.Need-enum-known-n
 enum-known-n c = search needs

@@ -1,84 +1,121 @@
-use mathlib.Core.Path.{sym, ap, _∙_}
+-- `utf8::front_at` meets its contract, row by row of the table. Assumes nothing.
+use mathlib.Core.Path.{refl, sym, _∙_}
+use mathlib.Core.List.{[], _∷_}
 use native.Mathlib.Omega.{arith}
-use Rattle.utf8.specs.Fronts.{rowOf}
-use Rattle.utf8.proofs.FollowLaws.{front-row}
-use borrow.Author.Needs.{needs}
+use Rattle.wat.specs.Utf8.{_‥_, table}
+use Rattle.utf8.specs.Fronts.{trailing}
+use Rattle.utf8.proofs.FollowLaws.{front-row, front-none}
 use Rattle.utf8.proofs.front_at.Statement.{statement}
 use Rattle.utf8.proofs.front_at.Tie as tie
 
 shared-slice-read-a : tie.Need-shared-slice-read-a
-shared-slice-read-a c = search needs
-
-row-of-requires : tie.Need-row-of-requires
-row-of-requires c κs = search needs
-
-enum-told : tie.Need-enum-told
-enum-told c = search needs
-
-enum-told-2 : tie.Need-enum-told-2
-enum-told-2 c = search needs
-
-enum-told-3 : tie.Need-enum-told-3
-enum-told-3 c = search needs
-
-add-follow1 : tie.Need-add-follow1
-add-follow1 c = search needs
-
-follow1-requires : tie.Need-follow1-requires
-follow1-requires c κs = search needs
-
-enum-known-lo : tie.Need-enum-known-lo
-enum-known-lo c = search needs
-
-add-follow2 : tie.Need-add-follow2
-add-follow2 c = search needs
-
-follow2-requires : tie.Need-follow2-requires
-follow2-requires c κs = search needs
-
-enum-known-lo-2 : tie.Need-enum-known-lo-2
-enum-known-lo-2 c = search needs
-
-add-follow3 : tie.Need-add-follow3
-add-follow3 c = search needs
-
-follow3-requires : tie.Need-follow3-requires
-follow3-requires c κs = search needs
+shared-slice-read-a c = omega arith
 
 returns : tie.Need-returns
-returns c = let a = c .before .before .before .before .before .args in sym (front-row (a .s .now) (a .at) _ (omega arith) (c .before .before .row-of .ensures ∙ ap rowOf (c .enum-told .given .1)))
+unfolding table
+returns c = let a = c .before .before .before .args in sym (front-row (a .s .now) (a .at) (omega arith) 0 0x00 0x7F [] (omega arith) refl (omega arith) (omega arith))
 
 returns-2 : tie.Need-returns-2
-returns-2 c = let a = c .before .before .before .before .before .args in sym (front-row (a .s .now) (a .at) _ (omega arith) (c .before .before .row-of .ensures ∙ ap rowOf (c .enum-told2 .given .1)))
+unfolding table
+returns-2 c = let a = c .before .before .before .before .args in sym (front-none (a .s .now) (a .at) (omega arith) (omega arith))
+
+rest-at-requires : tie.Need-rest-at-requires
+rest-at-requires c κs = omega arith
 
 returns-3 : tie.Need-returns-3
-returns-3 c = let a = c .before .before .before .before .before .before .args in c .follow1 .ensures ∙ sym (front-row (a .s .now) (a .at) _ (omega arith) (c .before .before .before .row-of .ensures ∙ ap rowOf (c .before .enum-told3 .given .1)))
+unfolding table
+returns-3 c =
+    let a = c .before .before .before .before .before .before .args in
+    c .rest-at .ensures ∙ sym (front-row (a .s .now) (a .at) (omega arith) 1 0xC2 0xDF (0x80 ‥ 0xBF ∷ trailing 0) (omega arith) refl (omega arith) (omega arith))
+
+rest-at-requires-2 : tie.Need-rest-at-requires-2
+rest-at-requires-2 c κs = omega arith
 
 returns-4 : tie.Need-returns-4
-returns-4 c = let a = c .before .before .before .before .before .before .before .args in c .follow2 .ensures ∙ sym (front-row (a .s .now) (a .at) _ (omega arith) (c .before .before .before .before .row-of .ensures ∙ ap rowOf (c .before .before .lo .given .1)))
+unfolding table
+returns-4 c =
+    let a = c .before .before .before .before .before .before .before .args in
+    c .rest-at2 .ensures ∙ sym (front-row (a .s .now) (a .at) (omega arith) 2 0xE0 0xE0 (0xA0 ‥ 0xBF ∷ trailing 1) (omega arith) refl (omega arith) (omega arith))
+
+rest-at-requires-3 : tie.Need-rest-at-requires-3
+rest-at-requires-3 c κs = omega arith
 
 returns-5 : tie.Need-returns-5
-returns-5 c = let a = c .before .before .before .before .before .before .before .args in c .follow3 .ensures ∙ sym (front-row (a .s .now) (a .at) _ (omega arith) (c .before .before .before .before .row-of .ensures ∙ ap rowOf (c .before .before .lo2 .given .1)))
+unfolding table
+returns-5 c =
+    let a = c .before .before .before .before .before .before .before .before .args in
+    c .rest-at3 .ensures ∙ sym (front-row (a .s .now) (a .at) (omega arith) 3 0xE1 0xEC (0x80 ‥ 0xBF ∷ trailing 1) (omega arith) refl (omega arith) (omega arith))
+
+rest-at-requires-4 : tie.Need-rest-at-requires-4
+rest-at-requires-4 c κs = omega arith
+
+returns-6 : tie.Need-returns-6
+unfolding table
+returns-6 c =
+    let a = c .before .before .before .before .before .before .before .before .before .args in
+    c .rest-at4 .ensures ∙ sym (front-row (a .s .now) (a .at) (omega arith) 4 0xED 0xED (0x80 ‥ 0x9F ∷ trailing 1) (omega arith) refl (omega arith) (omega arith))
+
+rest-at-requires-5 : tie.Need-rest-at-requires-5
+rest-at-requires-5 c κs = omega arith
+
+returns-7 : tie.Need-returns-7
+unfolding table
+returns-7 c =
+    let a = c .before .before .before .before .before .before .before .before .before .before .args in
+    c .rest-at5 .ensures ∙ sym (front-row (a .s .now) (a .at) (omega arith) 5 0xEE 0xEF (0x80 ‥ 0xBF ∷ trailing 1) (omega arith) refl (omega arith) (omega arith))
+
+rest-at-requires-6 : tie.Need-rest-at-requires-6
+rest-at-requires-6 c κs = omega arith
+
+returns-8 : tie.Need-returns-8
+unfolding table
+returns-8 c =
+    let a = c .before .before .before .before .before .before .before .before .before .before .before .args in
+    c .rest-at6 .ensures ∙ sym (front-row (a .s .now) (a .at) (omega arith) 6 0xF0 0xF0 (0x90 ‥ 0xBF ∷ trailing 2) (omega arith) refl (omega arith) (omega arith))
+
+rest-at-requires-7 : tie.Need-rest-at-requires-7
+rest-at-requires-7 c κs = omega arith
+
+returns-9 : tie.Need-returns-9
+unfolding table
+returns-9 c =
+    let a = c .before .before .before .before .before .before .before .before .before .before .before .before .args in
+    c .rest-at7 .ensures ∙ sym (front-row (a .s .now) (a .at) (omega arith) 7 0xF1 0xF3 (0x80 ‥ 0xBF ∷ trailing 2) (omega arith) refl (omega arith) (omega arith))
+
+rest-at-requires-8 : tie.Need-rest-at-requires-8
+rest-at-requires-8 c κs = omega arith
+
+returns-10 : tie.Need-returns-10
+unfolding table
+returns-10 c =
+    let a = c .before .before .before .before .before .before .before .before .before .before .before .before .before .args in
+    c .rest-at8 .ensures ∙ sym (front-row (a .s .now) (a .at) (omega arith) 8 0xF4 0xF4 (0x80 ‥ 0x8F ∷ trailing 2) (omega arith) refl (omega arith) (omega arith))
+
+returns-11 : tie.Need-returns-11
+unfolding table
+returns-11 c = let a = c .before .before .before .before .before .before .before .before .before .before .before .before .args in sym (front-none (a .s .now) (a .at) (omega arith) (omega arith))
 
 pub front-at-spec : {M : Type 1} → statement M
 front-at-spec =
     tie.close
     (tie.spec
     shared-slice-read-a
-    row-of-requires
-    enum-told
-    enum-told-2
-    enum-told-3
-    add-follow1
-    follow1-requires
-    enum-known-lo
-    add-follow2
-    follow2-requires
-    enum-known-lo-2
-    add-follow3
-    follow3-requires
     returns
     returns-2
+    rest-at-requires
     returns-3
+    rest-at-requires-2
     returns-4
-    returns-5)
+    rest-at-requires-3
+    returns-5
+    rest-at-requires-4
+    returns-6
+    rest-at-requires-5
+    returns-7
+    rest-at-requires-6
+    returns-8
+    rest-at-requires-7
+    returns-9
+    rest-at-requires-8
+    returns-10
+    returns-11)

@@ -1,6 +1,5 @@
 -- `utf8::is_char_boundary` meets its contract: the byte at the place continues a character, or one starts there. Assumes nothing.
 use native.Mathlib.Omega.{arith}
-use borrow.Author.Needs.{needs}
 use Rattle.utf8.proofs.BoundaryLaws.{boundary-end, boundary-start, boundary-inside}
 use Rattle.utf8.proofs.is_char_boundary.Statement.{statement}
 use Rattle.utf8.proofs.is_char_boundary.Tie as tie
@@ -9,7 +8,7 @@ returns : tie.Need-returns
 returns c = boundary-end _ _ (c .before .pre .0) (c .if1 .taken)
 
 shared-slice-read-b : tie.Need-shared-slice-read-b
-shared-slice-read-b c = search needs
+shared-slice-read-b c = omega arith
 
 returns-2 : tie.Need-returns-2
 returns-2 c = boundary-start _ _ (c .before .before .before .pre .0) (omega arith) (λ q. omega arith)

@@ -1,5 +1,4 @@
 -- `utf8::len_utf8` meets its contract, by the four cases of `encode`. Assumes nothing.
-use native.Mathlib.Omega.{arith}
 use Rattle.utf8.proofs.EncodeLaws.{long-1, long-2, long-3, long-4}
 use Rattle.utf8.proofs.len_utf8.Statement.{statement}
 use Rattle.utf8.proofs.len_utf8.Tie as tie

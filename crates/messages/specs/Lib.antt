@@ -1,0 +1,2 @@
+pub mod MessageModel
+pub mod Writing

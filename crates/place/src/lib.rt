@@ -1,0 +1,49 @@
+// The place counter by value: document 01's lines and columns, as wat's Places defines them.
+ghost use mathlib.Core.Path.{_≡_};
+ghost use Rattle.wat.specs.Places.{new, Moves};
+use wat::Moved;
+use wat::Place;
+
+const LAST: u32 = 4_294_967_295;
+
+// Where a text begins.
+pub fn start() -> Place
+    ensures { λ r. ⌜ r ≡ new ⌝ }
+{
+    Place { line: 1, column: 1 }
+}
+
+// The counter moved over the bytes of a token; refused by 35, and unchanged, where line or column would pass the last number at any byte.
+pub fn move_over(p: Place, w: &[u8]) -> Moved
+    ensures { λ r. ⌜ Moves p (now (w .entry)) r ⌝ }
+{
+    let mut line = p.line;
+    let mut column = p.column;
+    let mut i = 0;
+    while i < w.len() {
+        if w[i] == b'\n' {
+            if line == LAST {
+                return Moved {
+                    ok: false,
+                    place: p,
+                };
+            }
+            line += 1;
+            column = 1;
+            i += 1;
+        } else {
+            if column == LAST {
+                return Moved {
+                    ok: false,
+                    place: p,
+                };
+            }
+            column += 1;
+            i += 1;
+        }
+    }
+    Moved {
+        ok: true,
+        place: Place { line, column },
+    }
+}

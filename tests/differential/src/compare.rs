@@ -1,0 +1,138 @@
+//! One text, asked of both sides in every way: at every position, with both flags, listed with small and large budgets
+//! and lists. What document 01 adds to the Rust, the refusals 1 to 4, is expected by its rule.
+
+use crate::ours::{self, Found, Listed, Refused, Stop};
+use oracle::listing::{self, RECORD};
+use oracle::texts::Texts;
+use oracle::{Answer, Fault, Oracle};
+
+/// How many calls were compared, by what was asked.
+#[derive(Default)]
+pub struct Counts {
+    pub texts: u64,
+    pub tokens: u64,
+    pub annotations: u64,
+    pub listings: u64,
+    /// how often each refusal was the answer for one token
+    pub refusals: [u64; 25],
+}
+
+/// The bytes around a lent list, and what it holds before.
+const MARGIN: usize = 16;
+const CANARY: u8 = 0xa5;
+
+fn refused(number: u64, values: [u64; 2], place: usize) -> Refused {
+    Refused { number, values, place: place as u64 }
+}
+
+fn passed_on(fault: Fault) -> Refused {
+    refused(fault.number.into(), fault.data.map(u64::from), fault.place)
+}
+
+/// 1 is left out: it takes a text of 16 MiB, and has a test of its own.
+fn turned(bytes: &[u8], position: usize) -> Result<&str, Refused> {
+    let text = oracle::utf8(bytes).map_err(|numbers| refused(2, numbers.map(u64::from), numbers[0] as usize))?;
+    if position > text.len() {
+        return Err(refused(3, [0, 0], position));
+    }
+    if !text.is_char_boundary(position) {
+        return Err(refused(4, [0, 0], position));
+    }
+    Ok(text)
+}
+
+fn handed_out(token: oracle::readers::Token) -> Found {
+    Found::Token { kind: token.kind().into(), offset: token.offset() as u64, len: token.len().into() }
+}
+
+fn expected_token(bytes: &[u8], flag: bool, position: usize) -> (Found, u64) {
+    let (found, after) = match turned(bytes, position) {
+        Err(refused) => (Found::Refused(refused), position),
+        Ok(text) => match Oracle::new(text, flag).parse(position) {
+            (Answer::End, after) => (Found::Nothing, after),
+            (Answer::Token(token), after) => (handed_out(token), after),
+            (Answer::Fault(fault), after) => (Found::Refused(passed_on(fault)), after),
+        },
+    };
+    (found, after as u64)
+}
+
+fn expected_annotation(bytes: &[u8], flag: bool, position: usize) -> Found {
+    let text = match turned(bytes, 0) {
+        Err(refused) => return Found::Refused(refused),
+        Ok(text) => text,
+    };
+    match Oracle::new(text, flag).annotation(position) {
+        Ok(None) => Found::Nothing,
+        Ok(Some(token)) => handed_out(token),
+        Err(fault) => Found::Refused(passed_on(fault)),
+    }
+}
+
+fn expected_listing(bytes: &[u8], flag: bool, start: usize, budget: usize, list: &mut [u8]) -> Listed {
+    let text = match turned(bytes, start) {
+        Err(refused) => return Listed { stop: Stop::Refused(refused), count: 0, position: start as u64 },
+        Ok(text) => text,
+    };
+    let listing = Oracle::new(text, flag).list(start, budget, list);
+    let stop = match listing.stop {
+        listing::Stop::End => Stop::End,
+        listing::Stop::Budget => Stop::Budget,
+        listing::Stop::Fault(fault) => Stop::Refused(passed_on(fault)),
+        listing::Stop::Full => Stop::Full,
+    };
+    Listed { stop, count: listing.count as u64, position: listing.position as u64 }
+}
+
+impl Counts {
+    /// Compares everything that can be asked of a short text, and a few listings of it.
+    pub fn text(&mut self, bytes: &[u8], chance: &mut Texts) {
+        self.texts += 1;
+        let checked = ours::utf8_check(bytes);
+        let expected = oracle::utf8(bytes).map(|_| ()).map_err(|numbers| numbers.map(u64::from));
+        assert_eq!(checked, expected, "UTF-8 check of {}", shown(bytes));
+        for flag in [false, true] {
+            for position in 0..bytes.len() + 3 {
+                self.token(bytes, flag, position);
+            }
+            let start = chance.below(bytes.len() + 2);
+            let budget = chance.below(5);
+            let room = chance.below(4 * RECORD);
+            self.listing(bytes, flag, 0, usize::MAX, RECORD * bytes.len());
+            self.listing(bytes, flag, start, budget, room);
+        }
+    }
+
+    /// Compares one token and the annotation at a position.
+    fn token(&mut self, bytes: &[u8], flag: bool, position: usize) {
+        let (found, after) = ours::parse(bytes, flag, position);
+        let expected = expected_token(bytes, flag, position);
+        assert_eq!((found, after), expected, "token of {} at {position}, flag {flag}", shown(bytes));
+        if let Found::Refused(refused) = found {
+            self.refusals[refused.number as usize] += 1;
+        }
+        self.tokens += 1;
+        let found = ours::annotation(bytes, flag, position);
+        let expected = expected_annotation(bytes, flag, position);
+        assert_eq!(found, expected, "annotation of {} at {position}, flag {flag}", shown(bytes));
+        self.annotations += 1;
+    }
+
+    /// Compares a listing: its report, every byte of the list, and the bytes around it.
+    pub fn listing(&mut self, bytes: &[u8], flag: bool, start: usize, budget: usize, room: usize) {
+        let mut list = vec![CANARY; room + 2 * MARGIN];
+        let mut expected_list = list.clone();
+        let expected = expected_listing(bytes, flag, start, budget, &mut expected_list[MARGIN..MARGIN + room]);
+        let listed = ours::list(bytes, flag, start, budget, &mut list[MARGIN..MARGIN + room]);
+        let asked = || format!("listing of {} from {start}, flag {flag}, budget {budget}, room {room}", shown(bytes));
+        assert_eq!(listed, expected, "{}", asked());
+        assert!(list == expected_list, "bytes of the list: {}", asked());
+        self.listings += 1;
+    }
+}
+
+/// A text as a Rust literal, cut where it is long.
+fn shown(bytes: &[u8]) -> String {
+    let cut = &bytes[..bytes.len().min(400)];
+    format!("b\"{}\"{}", cut.escape_ascii(), if cut.len() < bytes.len() { ".." } else { "" })
+}

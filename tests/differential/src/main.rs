@@ -1,0 +1,109 @@
+//! Thallusweb against the Rust original, call by call: see `HELP`. Any difference is a panic that names the text.
+
+mod compare;
+mod ours;
+
+use compare::Counts;
+use oracle::texts::Texts;
+use std::process::ExitCode;
+use std::time::Instant;
+
+const HELP: &str = "\
+differential: Thallusweb against the Rust original
+
+  differential [--bytes N] [--symbols N] [--random N] [--seed S]
+      --bytes N     every byte string of up to N bytes (default 2)
+      --symbols N   every text of up to N symbols of a telling alphabet (default 4)
+      --random N    so many random texts, whole, cut and damaged, and random byte strings (default 200000)
+      --seed S      of the random texts (default 1)
+";
+
+/// Symbols that the rules tell apart: one to each class, and the marks of strings, comments and numbers.
+const TELLING: [&str; 30] = [
+    "(", ")", ";", "\"", "\\", "u", "{", "}", "0", "1", "x", "a", "f", "d", "8", "e", ".", "_", "+", "-", "n", "$",
+    "@", ",", " ", "\n", "\r", "é", "\u{202e}", "\u{1}",
+];
+
+struct Options {
+    bytes: usize,
+    symbols: usize,
+    random: u64,
+    seed: u64,
+}
+
+fn options() -> Option<Options> {
+    let mut options = Options { bytes: 2, symbols: 4, random: 200_000, seed: 1 };
+    let mut words = std::env::args().skip(1);
+    while let Some(word) = words.next() {
+        let number: u64 = words.next()?.parse().ok()?;
+        match word.as_str() {
+            "--bytes" => options.bytes = number as usize,
+            "--symbols" => options.symbols = number as usize,
+            "--random" => options.random = number,
+            "--seed" => options.seed = number,
+            _ => return None,
+        }
+    }
+    Some(options)
+}
+
+/// Every sequence of up to `most` of the symbols, joined.
+fn every(symbols: &[&[u8]], most: usize, text: &mut Vec<u8>, each: &mut impl FnMut(&[u8])) {
+    each(text);
+    if most == 0 {
+        return;
+    }
+    for symbol in symbols {
+        text.extend_from_slice(symbol);
+        every(symbols, most - 1, text, each);
+        text.truncate(text.len() - symbol.len());
+    }
+}
+
+/// A text over the limit, and the longest text: refusal 1, and a listing to the end.
+fn limits(counts: &mut Counts) {
+    let mut text = vec![b' '; 16_777_217];
+    let long = ours::Refused { number: 1, values: [0, 0], place: 3 };
+    assert_eq!(ours::parse(&text, false, 3), (ours::Found::Refused(long), 3));
+    assert_eq!(ours::annotation(&text, false, 3), ours::Found::Refused(long));
+    let mut list = [7; 12];
+    let listed = ours::list(&text, false, 3, 9, &mut list);
+    assert_eq!((listed.stop, listed.count, listed.position, list), (ours::Stop::Refused(long), 0, 3, [7; 12]));
+    text.pop();
+    counts.listing(&text, false, 0, usize::MAX, 12);
+}
+
+fn main() -> ExitCode {
+    let Some(options) = options() else {
+        eprint!("{HELP}");
+        return ExitCode::from(2);
+    };
+    let began = Instant::now();
+    let mut counts = Counts::default();
+    let mut chance = Texts::new(options.seed);
+    limits(&mut counts);
+    let all: Vec<[u8; 1]> = (0..=255).map(|byte| [byte]).collect();
+    let all: Vec<&[u8]> = all.iter().map(|byte| &byte[..]).collect();
+    every(&all, options.bytes, &mut Vec::new(), &mut |text| counts.text(text, &mut chance));
+    let telling = TELLING.map(str::as_bytes);
+    every(&telling, options.symbols, &mut Vec::new(), &mut |text| counts.text(text, &mut chance));
+    for _ in 0..options.random {
+        let limit = [8, 24, 60, 200][chance.below(4)];
+        let text = chance.text(limit);
+        counts.text(text.as_bytes(), &mut chance);
+        let bytes = chance.bytes(limit);
+        counts.text(&bytes, &mut chance);
+    }
+    let Counts { texts, tokens, annotations, listings, refusals } = counts;
+    println!(
+        "{texts} texts: {tokens} tokens, {annotations} annotations, {listings} listings agree; {:.0} s",
+        began.elapsed().as_secs_f64()
+    );
+    let seen = refusals
+        .iter()
+        .enumerate()
+        .filter(|(_, count)| **count > 0)
+        .map(|(number, count)| format!("{number}: {count}"));
+    println!("refusals of one token by number: {}", seen.collect::<Vec<_>>().join(", "));
+    ExitCode::SUCCESS
+}
