@@ -1,20 +1,25 @@
 -- From an answer to the error that the code gives for it. Assumes nothing.
 use Prim.Native.Nat.{ℕ, suc, _+_, _-_, _≤_}
-use mathlib.Core.Path.{_≡_, refl, sym, ap, _∙_}
+use mathlib.Core.Path.{_≡_, refl, sym, ap, subst, _∙_}
 use mathlib.Core.Logic.{_⊎_, inl, inr, ⊎-elim}
 use mathlib.Core.Bool.{Bool, true, false}
 use mathlib.Core.List.{List}
 use native.Mathlib.Omega.{arith}
+use native.Mathlib.Nat.{add-zero}
 use lib.Dec.{ltb}
 use lib.ListN.{length, drop}
 use Rattle.wat.specs.declared.TokenKind.{TokenKind}
+use Rattle.wat.specs.declared.TokenKind.the-variants as kind
 use Rattle.wat.specs.declared.LexError.{LexError}
 use Rattle.wat.specs.declared.LexError.the-variants.{ConfusingUnicode}
 use Rattle.wat.specs.declared.Answer.{Answer}
 use Rattle.wat.specs.declared.Answer.the-variants as answer
+use Rattle.wat.specs.Bytes.{byte}
 use Rattle.wat.specs.Settings.{Settings}
-use Rattle.wat.specs.LexModel.{run, Hidden, clear, found, hidden, comment, runBy, lexBy}
+use Rattle.wat.specs.Chars.{newline}
+use Rattle.wat.specs.LexModel.{semi, run, next, Hidden, clear, found, hidden, comment, runBy, lexBy}
 use Rattle.wat.proofs.Hexnums.{differ}
+use Rattle.classes.specs.Scan.{Scanned}
 use Rattle.comments.specs.declared.Confusing.{Confusing}
 use Rattle.comments.specs.declared.Confusing.the-variants.{Clear, Found}
 use Rattle.comments.specs.Confusing.{before, hiddenIn}
@@ -23,7 +28,7 @@ use Rattle.steps.specs.declared.Walk.the-variants.{Stops, Fails}
 use Rattle.steps.specs.Steps.{faultAt, Faults, walkOf}
 use Rattle.steps.proofs.RunLaws.{walked}
 use Rattle.steps.proofs.WalkLaws.{stops-of, fails-of}
-use Rattle.steps.proofs.CommentLaws.{foundAs, comment-on, comment-off}
+use Rattle.steps.proofs.CommentLaws.{foundAs, comment-on, comment-off, semi-alone, semi-comment}
 
 module _ {at : ℕ} {a : Answer} {f : Fault} where
   pub fault-none : {k : TokenKind} {n : ℕ} → a ≡ answer.Token k n → Faults at a f
@@ -37,6 +42,13 @@ module _ {at : ℕ} {a : Answer} {f : Fault} where
     where
       same : {e x : LexError} {p n i m : ℕ} → e ≡ x → p ≡ i → n ≡ m → faultAt at e p n ≡ faultAt at x i m
       same a b c = cc
+
+-- an error at the place itself, with nothing consumed
+pub fault-here : {at : ℕ} {a : Answer} {e : LexError} → a ≡ answer.Fault e 0 0 → Faults at a (record { error = e; place = at; after = at })
+fault-here {at} {a} {e} q =
+    let z = add-zero at in
+    let s : record { error = e; place = at; after = at } ≡ faultAt at e 0 0 = cc in
+    fault-is q s
 
 -- ---- runs
 
@@ -80,3 +92,11 @@ module _ (s : List ℕ) (at end : ℕ) (l : at ≤ end) {r : Confusing} (h : r �
           let b : p ≡ at + (p - at) = omega arith in
           let d : end ≡ at + (end - at) = omega arith in
           cc
+
+-- the error of a line comment is that of `;`
+pub line-faults : (σ : Settings) (s : List ℕ) (at : ℕ) {end : ℕ} {f : Fault} → Scanned newline false s at end → ((k : TokenKind) → Faults at (comment σ k (end - at) (drop at s)) f) → Faults at (lexBy σ semi (drop at s)) f
+line-faults σ s at {end} {f} c h = go (next (byte ";") (drop (at + 1) s)) refl
+  where
+    go : (b : Bool) → next (byte ";") (drop (at + 1) s) ≡ b → Faults at (lexBy σ semi (drop at s)) f
+    go true e = subst (λ (a : Answer). Faults at a f) (sym (semi-comment σ s at e c)) (h kind.LineComment)
+    go false e = fault-none (semi-alone σ s at e)

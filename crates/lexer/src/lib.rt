@@ -10,7 +10,7 @@ ghost use Rattle.wat.specs.StringModel.{peek};
 ghost use Rattle.wat.specs.LexModel as model;
 ghost use Rattle.wat.specs.Calls.{Text, Stands, at as answer-at, Parses, Annotates};
 ghost use Rattle.classes.specs.Table.{Classes};
-ghost use Rattle.steps.specs.Steps.{faultAt, Faults};
+ghost use Rattle.steps.specs.Steps.{Faults};
 ghost use Rattle.lexer.specs.Checks.{Sound, Meets};
 use classes::Family;
 use comments::Confusing;
@@ -141,7 +141,7 @@ pub fn fault_at(s: &[u8], at: usize, flag: bool, t: &[u8; 256]) -> Fault
 {
     match classes::begins(t, s[at]) {
         Family::OpenParen => block_fault(s, at),
-        Family::Semi => line_fault(s, at),
+        Family::Semi => comment_fault(s, at, comments::line_end(s, at)),
         Family::Run => run_fault(s, at, flag, t),
         Family::Other => unexpected(s, at),
         Family::Spaces => no_error(at),
@@ -161,21 +161,13 @@ fn block_fault(s: &[u8], at: usize) -> Fault
     }
     let end = comments::block_end(s, at + 2);
     if end == 0 {
-        return error_at(at, LexError::DanglingBlockComment);
+        return Fault {
+            error: LexError::DanglingBlockComment,
+            place: at,
+            after: at,
+        };
     }
     comment_fault(s, at, end)
-}
-
-// 21 in a line comment.
-fn line_fault(s: &[u8], at: usize) -> Fault
-    requires { ⌜ at < length (now s) ⌝ }
-    requires { ⌜ WellFormed (drop at (now s)) ⌝ }
-    ensures { λ r. ⌜ ((σ : Settings) → Faults at (model.lexBy σ model.semi (drop at (now (s .entry)))) r) ⌝ }
-{
-    if !steps::is_at(s, at + 1, b';') {
-        return no_error(at);
-    }
-    comment_fault(s, at, comments::line_end(s, at))
 }
 
 // 21 in the comment from `at` to `end`.
@@ -215,22 +207,19 @@ fn unexpected(s: &[u8], at: usize) -> Fault
     ensures { λ r. ⌜ Faults at (model.otherBy (peek (drop at (now (s .entry))))) r ⌝ }
 {
     match utf8::decode(s, at) {
-        Decoded::Char { value, len: _ } => error_at(at, LexError::Unexpected(value)),
+        Decoded::Char { value, len: _ } => Fault {
+            error: LexError::Unexpected(value),
+            place: at,
+            after: at,
+        },
         Decoded::Nothing => no_error(at),
     }
 }
 
 // The answer where there is no error, which nobody looks at.
 fn no_error(at: usize) -> Fault {
-    error_at(at, LexError::UnexpectedEof)
-}
-
-// An error at a place, with nothing consumed.
-fn error_at(at: usize, error: LexError) -> Fault
-    ensures { λ r. ⌜ r ≡ faultAt at error 0 0 ⌝ }
-{
     Fault {
-        error,
+        error: LexError::UnexpectedEof,
         place: at,
         after: at,
     }

@@ -6,7 +6,7 @@ use Rattle.wat.specs.declared.TokenKind.the-variants as kind
 use Rattle.wat.specs.declared.Answer.{Answer}
 use Rattle.steps.specs.Steps.{Faults}
 use Rattle.steps.proofs.CommentLaws.{open-alone, open-within, block-open, block-onward, block-closed}
-use Rattle.lexer.proofs.FaultLaws.{fault-none, fault-is}
+use Rattle.lexer.proofs.FaultLaws.{fault-none, fault-here}
 use borrow.Author.Needs.{needs}
 use Rattle.lexer.proofs.block_fault.Statement.{statement}
 use Rattle.lexer.proofs.block_fault.Tie as tie
@@ -29,11 +29,8 @@ add-block-end c = search needs
 block-end-requires : tie.Need-block-end-requires
 block-end-requires c κs = open-within _ _ (sym (c .before .is-at .ensures) ∙ not-false _ (c .if1 .left))
 
-error-at-requires : tie.Need-error-at-requires
-error-at-requires c κs = search needs
-
 returns-2 : tie.Need-returns-2
-returns-2 c = λ σ. fault-is (block-open σ _ _ (sym (c .before .before .before .before .is-at .ensures) ∙ not-false _ (c .before .before .before .if1 .left)) (c .before .before .block-end .ensures) (c .before .if2 .taken)) (c .error-at .ensures)
+returns-2 c = λ σ. fault-here (block-open σ _ _ (sym (c .before .before .before .is-at .ensures) ∙ not-false _ (c .before .before .if1 .left)) (c .before .block-end .ensures) (c .if2 .taken))
 
 comment-fault-requires : tie.Need-comment-fault-requires
 comment-fault-requires c κs =
@@ -56,7 +53,6 @@ block-fault-spec =
     returns
     add-block-end
     block-end-requires
-    error-at-requires
     returns-2
     comment-fault-requires
     returns-3)

@@ -4,7 +4,7 @@ use Rattle.wat.specs.declared.Answer.{Answer}
 use Rattle.wat.specs.LexModel.{spaces, open-paren, close-paren, single, semi, run, other}
 use Rattle.steps.specs.Steps.{Faults}
 use Rattle.steps.proofs.LexLaws.{family-told, lex-family}
-use Rattle.lexer.proofs.FaultLaws.{fault-none}
+use Rattle.lexer.proofs.FaultLaws.{fault-none, line-faults}
 use borrow.Author.Needs.{needs}
 use Rattle.lexer.proofs.fault_at.Statement.{statement}
 use Rattle.lexer.proofs.fault_at.Tie as tie
@@ -24,8 +24,11 @@ block-fault-requires c κs = search needs
 enum-told-2 : tie.Need-enum-told-2
 enum-told-2 c = search needs
 
-line-fault-requires : tie.Need-line-fault-requires
-line-fault-requires c κs = search needs
+line-end-requires : tie.Need-line-end-requires
+line-end-requires c κs = search needs
+
+comment-fault-requires : tie.Need-comment-fault-requires
+comment-fault-requires c κs = search needs
 
 enum-told-3 : tie.Need-enum-told-3
 enum-told-3 c = search needs
@@ -64,8 +67,8 @@ returns c =
 
 returns-2 : tie.Need-returns-2
 returns-2 c =
-    let a = c .before .before .before .before .before .before .args in
-    subst (λ (x : Answer). Faults (a .at) x (c .line-fault .result)) (sym (lex-family (record { confusing = a .flag }) _ _ (c .before .before .before .before .before .before .pre .0) (family-told _ semi (c .before .before .before .begins .ensures) (c .before .enum-told2 .given .1)))) (c .line-fault .ensures (record { confusing = a .flag }))
+    let a = c .before .before .before .before .before .before .before .args in
+    subst (λ (x : Answer). Faults (a .at) x (c .comment-fault .result)) (sym (lex-family (record { confusing = a .flag }) _ _ (c .before .before .before .before .before .before .before .pre .0) (family-told _ semi (c .before .before .before .before .begins .ensures) (c .before .before .enum-told2 .given .1)))) (line-faults (record { confusing = a .flag }) _ _ (c .before .line-end .ensures) (c .comment-fault .ensures (record { confusing = a .flag })))
 
 returns-3 : tie.Need-returns-3
 returns-3 c =
@@ -95,7 +98,8 @@ fault-at-spec =
     enum-told
     block-fault-requires
     enum-told-2
-    line-fault-requires
+    line-end-requires
+    comment-fault-requires
     enum-told-3
     run-fault-requires
     enum-told-4

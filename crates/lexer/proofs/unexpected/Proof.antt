@@ -1,11 +1,11 @@
 -- The character at the place is the unexpected one. Assumes nothing.
 use Prim.Native.Nat.{ℕ}
-use mathlib.Core.Path.{ap, subst, _∙_}
+use mathlib.Core.Path.{sym, ap, subst, _∙_}
 use Rattle.wat.specs.declared.LexError.the-variants.{Unexpected}
+use Rattle.wat.specs.declared.Answer.the-variants as answer
 use Rattle.wat.specs.LexModel.{otherBy}
 use Rattle.utf8.specs.Decoding.{Decodes}
-use Rattle.steps.specs.Steps.{faultAt}
-use Rattle.lexer.proofs.FaultLaws.{fault-end, fault-is}
+use Rattle.lexer.proofs.FaultLaws.{fault-end, fault-here}
 use borrow.Author.Needs.{needs}
 use Rattle.lexer.proofs.unexpected.Statement.{statement}
 use Rattle.lexer.proofs.unexpected.Tie as tie
@@ -16,9 +16,6 @@ decode-requires c κs = search needs
 enum-known-value : tie.Need-enum-known-value
 enum-known-value c = search needs
 
-error-at-requires : tie.Need-error-at-requires
-error-at-requires c κs = search needs
-
 enum-told : tie.Need-enum-told
 enum-told c = search needs
 
@@ -27,9 +24,9 @@ no-error-requires c κs = search needs
 
 returns : tie.Need-returns
 returns c =
-    let a = c .before .before .before .before .before .before .args in
-    let d = subst (Decodes (a .s .now) (a .at)) (c .before .before .value .given .1) (c .before .before .before .before .decode .ensures) in
-    fault-is (ap otherBy (d .peeked)) (c .error-at .ensures ∙ ap (λ (v : ℕ). faultAt (a .at) (Unexpected v) 0 0) (d .value))
+    let a = c .before .before .before .before .before .args in
+    let d = subst (Decodes (a .s .now) (a .at)) (c .before .value .given .1) (c .before .before .before .decode .ensures) in
+    fault-here (ap otherBy (d .peeked) ∙ ap (λ (v : ℕ). answer.Fault (Unexpected v) 0 0) (sym (d .value)))
 
 returns-2 : tie.Need-returns-2
 returns-2 c =
@@ -39,11 +36,4 @@ returns-2 c =
 pub unexpected-spec : {M : Type 1} → statement M
 unexpected-spec =
     tie.close
-    (tie.spec
-    decode-requires
-    enum-known-value
-    error-at-requires
-    enum-told
-    no-error-requires
-    returns
-    returns-2)
+    (tie.spec decode-requires enum-known-value enum-told no-error-requires returns returns-2)
