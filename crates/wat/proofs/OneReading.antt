@@ -6,7 +6,7 @@ use native.Mathlib.Omega.{arith}
 use lib.ListN.{length, drop}
 use Rattle.wat.specs.declared.{TokenKind.TokenKind, Token.Token, Refusal.Refusal, Reading.Reading, IntegerSign.IntegerSign, FloatSign.FloatSign}
 use Rattle.wat.specs.Values.{Reader, Takes, Value, Reads}
-use Rattle.wat.specs.Reading.{There, Barred, needs, found, Read, ReadsSign, negativeOf, ReadsNegative}
+use Rattle.wat.specs.Reading.{There, Barred, needs, found, Handed, Read, ReadsSign, negativeOf, ReadsNegative}
 use Rattle.wat.proofs.OneCall.{turned-one, stands-or-turned}
 use Rattle.wat.proofs.OneValue.{reads-one}
 
@@ -36,25 +36,24 @@ reads-takes Reads.of-nan = Takes.a-float
 reads-takes (Reads.of-payload n) = Takes.a-float
 reads-takes Reads.of-normal = Takes.a-float
 
+-- a value is handed over in one way
+pub handed-one : {offset : ℕ} {v v′ : Value} {buffer b b′ : List ℕ} {a a′ : Reading} → Handed offset v buffer a b → Handed offset v′ buffer a′ b′ → v ≡ v′ → (a ≡ a′) × (b ≡ b′)
+handed-one (Handed.too-short h) (Handed.too-short h′) z = (refl, refl)
+handed-one (Handed.too-short h) (Handed.fits h′) z = absurd (omega (arith, ap (λ (v : Value). length (needs v)) z))
+handed-one (Handed.fits h) (Handed.too-short h′) z = absurd (omega (arith, ap (λ (v : Value). length (needs v)) z))
+handed-one {offset = offset} {buffer = buffer} (Handed.fits h) (Handed.fits h′) z =
+    (ap (found offset) z, ap (λ (v : Value). needs v ++ drop (length (needs v)) buffer) z)
+
 pub read-one : {reader : Reader} {text buffer b b′ : List ℕ} {token : Token} {a a′ : Reading} → Read reader text token buffer a b → Read reader text token buffer a′ b′ → (a ≡ a′) × (b ≡ b′)
 read-one (Read.barred x) (Read.barred y) = let z = barred-one x y in (cc, refl)
 read-one (Read.barred x) (Read.other-kind t n) = absurd (there-or-barred t x)
-read-one (Read.barred x) (Read.too-short t r h) = absurd (there-or-barred t x)
 read-one (Read.barred x) (Read.reads t r h) = absurd (there-or-barred t x)
 read-one (Read.other-kind t n) (Read.barred x) = absurd (there-or-barred t x)
 read-one (Read.other-kind t n) (Read.other-kind t′ n′) = (refl, refl)
-read-one (Read.other-kind t n) (Read.too-short t′ r h) = absurd (n (reads-takes r))
 read-one (Read.other-kind t n) (Read.reads t′ r h) = absurd (n (reads-takes r))
-read-one (Read.too-short t r h) (Read.barred x) = absurd (there-or-barred t x)
-read-one (Read.too-short t r h) (Read.other-kind t′ n) = absurd (n (reads-takes r))
-read-one (Read.too-short t r h) (Read.too-short t′ r′ h′) = (refl, refl)
-read-one (Read.too-short t r h) (Read.reads t′ r′ h′) = let z = reads-one r r′ in absurd (omega (arith, ap (λ (v : Value). length (needs v)) z))
 read-one (Read.reads t r h) (Read.barred x) = absurd (there-or-barred t x)
 read-one (Read.reads t r h) (Read.other-kind t′ n) = absurd (n (reads-takes r))
-read-one (Read.reads t r h) (Read.too-short t′ r′ h′) = let z = reads-one r r′ in absurd (omega (arith, ap (λ (v : Value). length (needs v)) z))
-read-one {buffer = buffer} {token = token} (Read.reads t r h) (Read.reads t′ r′ h′) =
-    let z = reads-one r r′ in
-    (ap (found (token .offset)) z, ap (λ (v : Value). needs v ++ drop (length (needs v)) buffer) z)
+read-one (Read.reads t r h) (Read.reads t′ r′ h′) = handed-one h h′ (reads-one r r′)
 
 pub reads-sign-one : {text : List ℕ} {token : Token} {a b : IntegerSign} → ReadsSign text token a → ReadsSign text token b → a ≡ b
 reads-sign-one (ReadsSign.barred x) (ReadsSign.barred y) = let z = barred-one x y in cc

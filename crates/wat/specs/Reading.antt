@@ -43,13 +43,17 @@ found offset (copy v) = Buffer 0 (length v)
 found offset absent = Absent
 found offset (refused v e) = Refused (Lexical e)
 
+-- a value of a token at an offset, handed over: the answer, and the buffer afterwards; 32 where the buffer is shorter than the copy
+pub data Handed (offset : ℕ) (v : Value) (buffer : List ℕ) : Reading → List ℕ → Type 0 where
+  too-short : length buffer < length (needs v) → Handed offset v buffer (Refused BufferTooShort) buffer
+  fits : length (needs v) ≤ length buffer → Handed offset v buffer (found offset v) (needs v ++ drop (length (needs v)) buffer)
+
 -- the first call: its answer, and the buffer afterwards
 pub data Read (reader : Reader) (text : List ℕ) (token : Token) (buffer : List ℕ) : Reading → List ℕ → Type 0 where
   barred : {r : Refusal} → Barred text token r → Read reader text token buffer (Refused r) buffer
   other-kind : There text token → (Takes reader (token .kind) → ⊥) → Read reader text token buffer (Refused NotThatKind) buffer
-  too-short : {v : Value} → There text token → Reads reader (token .kind) (own text token) v → length buffer < length (needs v) → Read reader text token buffer (Refused BufferTooShort) buffer
-  reads : {v : Value} → There text token → Reads reader (token .kind) (own text token) v → length (needs v) ≤ length buffer
-      → Read reader text token buffer (found (token .offset) v) (needs v ++ drop (length (needs v)) buffer)
+  reads : {v : Value} {a : Reading} {b : List ℕ} → There text token → Reads reader (token .kind) (own text token) v → Handed (token .offset) v buffer a b
+      → Read reader text token buffer a b
 
 -- so many bytes from a start on; none where there are not so many
 abbrev pub cut : List ℕ → ℕ → ℕ → List ℕ
