@@ -1,5 +1,5 @@
 -- From what is answered here to wat's definitions of strings and of their errors, in text that is UTF-8, and back. Assumes nothing.
-use Prim.Native.Nat.{ℕ, suc, _+_, _-_, _≤_}
+use Prim.Native.Nat.{ℕ, suc, _+_, _-_}
 use mathlib.Core.Path.{_≡_, refl, ap, _∙_}
 use mathlib.Core.List.{List, [], _∷_, _++_, append-assoc}
 use native.Mathlib.Omega.{arith}
@@ -8,14 +8,13 @@ use lib.Seq.{take-append-add, drop-append-add, drop-drop}
 use Rattle.wat.specs.Bytes.{byte}
 use Rattle.wat.specs.declared.LexError.{LexError}
 use Rattle.wat.specs.Settings.{Settings}
-use Rattle.wat.specs.Utf8.{Char, scalar, WellFormed}
-use Rattle.wat.specs.Strings.{Elem, Elems, Str}
+use Rattle.wat.specs.Utf8.{WellFormed}
+use Rattle.wat.specs.Strings.{Elems, Str}
 use Rattle.wat.specs.StringFaults.{BadStr}
 use Rattle.wat.specs.RunModel.{Body, closed, failed}
-use Rattle.wat.proofs.Scalars.{char-right}
 use Rattle.wat.proofs.Hexnums.{differ}
 use Rattle.wat.proofs.Runs.{Bodies, is-closed, is-failed, bodies, str-body, bad-body}
-use Rattle.elements.proofs.CharLaws.{encode-short}
+use Rattle.wat.proofs.ValueLaws.{str-short}
 use Rattle.strings.specs.Whole.{string, Ends, Fails, Whole, valueOf}
 
 -- ---- from the answers
@@ -74,24 +73,6 @@ module _ {σ : Settings} {s : List ℕ} {at place after : ℕ} {e : LexError} (x
           rw (m, n, k, l, d, ← i) (BadStr.quoted p y)
 
 -- ---- from the definitions
-
--- a string stands for fewer bytes than it has
-
-char-short : (c : List ℕ) → Char c → length c ≤ 4
-char-short c ch = omega (arith, encode-short (scalar c), ap length (char-right c ch .0))
-
-elem-short : {σ : Settings} {s v : List ℕ} → Elem σ s v → length v ≤ length s
-elem-short (Elem.raw ch p q r h) = omega arith
-elem-short (Elem.letter m) = omega arith
-elem-short (Elem.pair p q) = omega arith
-elem-short (Elem.unicode {ds = ds} {c = c} r ch) = omega (arith, length-append ds (byte "}" ∷ []), char-short c ch)
-
-elems-short : {σ : Settings} {s v : List ℕ} → Elems σ s v → length v ≤ length s
-elems-short Elems.none = omega arith
-elems-short (Elems.next {s = s} {v = v} {t = t} {w = w} p r) = omega (arith, length-append s t, length-append v w, elem-short p, elems-short r)
-
-pub str-short : {σ : Settings} {w v : List ℕ} → Str σ w v → length v + 2 ≤ length w
-str-short (Str.quoted {s = s} r) = omega (arith, length-append s (byte "\"" ∷ []), elems-short r)
 
 pub str-string : {σ : Settings} {w v : List ℕ} (t u : List ℕ) (n : ℕ) → Str σ w v → byte "\"" ∷ t ≡ w ++ u → length w ≡ 1 + n → string σ t ≡ closed n v
 str-string {σ} t u n (Str.quoted {s = i} {v = v} r) e l =

@@ -12,7 +12,7 @@ use Rattle.wat.specs.declared.Answer.{Answer}
 use Rattle.wat.specs.declared.Answer.the-variants.{End, Token, Fault}
 use Rattle.wat.specs.declared.Checked.the-variants.{Ok}
 use Rattle.wat.specs.Bytes.{bytes, between, has}
-use Rattle.wat.specs.Settings.{plain}
+use Rattle.wat.specs.Settings.{Settings}
 use Rattle.wat.specs.Numbers.{digit, marks, Digits, Signed, Fraction, Exponent}
 use Rattle.wat.specs.NumberModel.{classify, run, strip, after-dot, fraction, sign-of, after-sign, exponent, at-end, then, decide, finite, is, nothing-left, payload, unsigned}
 use Rattle.wat.specs.Utf8.{WellFormed, Says, scalar, table}
@@ -68,6 +68,10 @@ abbrev Leaves : Answer → List ℕ → List (Reader × Value) → Type 0
 Leaves (Token k n) w rs = All (λ r. Reads (r .0) k w (r .1)) rs
 Leaves End w rs = Unit {0}
 Leaves (Fault e p n) w rs = Unit {0}
+
+-- the rows are read with the flag off
+abbrev plain : Settings
+plain = record { confusing = false }
 
 abbrev Holds : Row → Type 0
 Holds r = Lexed plain (r .text) (r .answer) × Leaves (r .answer) (r .text) (r .reads)
