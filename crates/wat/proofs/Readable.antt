@@ -43,7 +43,7 @@ filled v buffer = needs v ++ drop (length (needs v)) buffer
 pub record Yields (reader : Reader) (text : List ℕ) (token : Token) (v : Value) (buffer : List ℕ) : Type 0 where
   -- the first call answers where the value is, and copies it where it is a copy
   pub answers : Read reader text token buffer (found (token .offset) v) (filled v buffer)
-  -- it has no other answer and leaves no other buffer: no 1 to 4, 30, 31 or 32
+  -- it has no other answer, and leaves no other buffer
   pub only : (a : Reading) (b : List ℕ) → Read reader text token buffer a b → (a ≡ found (token .offset) v) × (b ≡ filled v buffer)
   -- the second call, given that answer, hands over the value's bytes
   pub hands : second text (filled v buffer) (found (token .offset) v) ≡ bytesOf v
@@ -62,7 +62,7 @@ pub record Readable (reader : Reader) (text : List ℕ) (token : Token) : Type 0
   pub there : (buffer : List ℕ) → token .len ≤ length buffer → Yields reader text token value buffer
   -- and they yield the same where the text is the token's own bytes and nothing else
   pub alone : (buffer : List ℕ) → token .len ≤ length buffer → Yields reader (own text token) (moved token) value buffer
-  -- the answer is a refusal exactly where it is that of a name that is empty or not UTF-8
+  -- the answer is a refusal exactly where the name is empty (23, 24) or not UTF-8 (22): none is 1 to 4, 30, 31 or 32
   pub refuses : (r : Refusal) → (found (token .offset) value ≡ Refused r) ↔ ((e : LexError) × (r ≡ Lexical e) × Misnamed reader (own text token) e)
 
 -- a text passes, with the report r and the list l afterwards
