@@ -16,7 +16,10 @@ use Rattle.wat.specs.declared.FloatKind.the-variants.{Inf, Nan, NanVal, Normal}
 use Rattle.wat.specs.declared.TokenKind.{TokenKind}
 use Rattle.wat.specs.declared.TokenKind.the-variants.{LineComment, BlockComment, Whitespace, LParen, RParen, String, Id, Keyword, Annotation, Reserved, Integer, Float}
 use Rattle.wat.specs.Cases.{kindNumber}
-use Rattle.kinds.specs.Numbered.{Same, same, other}
+use Rattle.wat.proofs.Hexnums.{differ}
+use Rattle.kinds.specs.declared.Named.{Named}
+use Rattle.kinds.specs.declared.Named.the-variants.{Kind, NoKind}
+use Rattle.kinds.specs.Numbered.{Numbered, Same, same, other}
 
 abbrev detail : ℕ → ℕ → Bool
 detail n bit = eqb (n / bit % 2) 1
@@ -121,3 +124,12 @@ same-by a b x y p q = go (eqb x y) refl
     go : (t : Bool) → eqb x y ≡ t → Same a b t
     go true e = same (injective a b (sym p ∙ eqb-true x y e ∙ q))
     go false e = other (λ z. eqb-false x y e (p ∙ ap kindNumber z ∙ sym q))
+
+-- what an answer of `kind_of` says of the number
+pub named-kind : {n : ℕ} {m : Named} {k : TokenKind} → Numbered n m → m ≡ Kind k → kindNumber k ≡ n
+named-kind {k = k} (Numbered.named {k = j} e) q = let z : j ≡ k = cc in rw z at e
+named-kind (Numbered.nameless n) q = differ (cc)
+
+pub no-kind : {n : ℕ} {m : Named} → Numbered n m → m ≡ NoKind → (k : TokenKind) → kindNumber k ≡ n → ⊥
+no-kind (Numbered.named e) q = differ (cc)
+no-kind (Numbered.nameless n) q = n

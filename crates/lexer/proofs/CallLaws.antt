@@ -6,13 +6,12 @@ use mathlib.Core.List.{List, [], _∷_, _++_}
 use native.Mathlib.Omega.{arith}
 use lib.ListN.{length, take, drop, length-drop, take-append-drop, drop-of-length-le}
 use borrow.Author.Tests.{eqb-true}
-use Rattle.wat.specs.declared.{TokenKind.TokenKind, LexError.LexError, Refusal.Refusal, Token.Token, Answer.Answer, Found.Found, Parsed.Parsed}
+use Rattle.wat.specs.declared.{TokenKind.TokenKind, Refusal.Refusal, Token.Token, Answer.Answer, Found.Found, Parsed.Parsed}
 use Rattle.wat.specs.declared.TokenKind.the-variants as kind
 use Rattle.wat.specs.declared.Refusal.the-variants.{Lexical}
 use Rattle.wat.specs.declared.Answer.the-variants as answer
 use Rattle.wat.specs.declared.Found.the-variants as found
 use Rattle.wat.specs.Bytes.{byte}
-use Rattle.wat.specs.Cases.{kindNumber}
 use Rattle.wat.specs.Settings.{Settings}
 use Rattle.wat.specs.Utf8.{WellFormed}
 use Rattle.wat.specs.Lexing.{Lexed}
@@ -25,7 +24,7 @@ use Rattle.wat.proofs.Total.{lexed}
 use Rattle.kinds.specs.declared.Named.{Named}
 use Rattle.kinds.specs.declared.Named.the-variants.{Kind, NoKind}
 use Rattle.kinds.specs.Numbered.{Numbered, Same}
-use Rattle.kinds.proofs.NumberLaws.{injective}
+use Rattle.kinds.proofs.NumberLaws.{injective, named-kind, no-kind}
 use Rattle.steps.specs.declared.Step.{Step}
 use Rattle.steps.specs.declared.Fault.{Fault}
 use Rattle.steps.specs.Steps.{Stepped, Faults}
@@ -38,14 +37,6 @@ unfolding lex
 parsed-end σ text pos e =
     let h : length text ≤ pos = omega arith in
     ap (λ (t : List ℕ). at pos (lex σ t)) (sym (drop-of-length-le text h))
-
-named-kind : {n : ℕ} {m : Named} {k : TokenKind} → Numbered n m → m ≡ Kind k → kindNumber k ≡ n
-named-kind {k = k} (Numbered.named {k = j} e) q = let z : j ≡ k = cc in rw z at e
-named-kind (Numbered.nameless n) q = differ (cc)
-
-no-kind : {n : ℕ} {m : Named} → Numbered n m → m ≡ NoKind → (k : TokenKind) → kindNumber k ≡ n → ⊥
-no-kind (Numbered.named e) q = differ (cc)
-no-kind (Numbered.nameless n) q = n
 
 token-at : (pos n : ℕ) {j k : TokenKind} {end : ℕ} → j ≡ k → end ≡ pos + n
     → record { found = found.Token (record { kind = j; offset = pos; len = end - pos }); position = end } ≡ at pos (answer.Token k n)

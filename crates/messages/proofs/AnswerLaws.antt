@@ -4,6 +4,7 @@ use mathlib.Core.Path.{_≡_, sym, ap, _∙_}
 use mathlib.Core.Bool.{Bool, true, false, _&&_}
 use mathlib.Core.List.{List, _++_}
 use native.Mathlib.Omega.{arith}
+use native.Mathlib.Nat.{zero-add}
 use lib.ListN.{length, take, drop}
 use lib.Seq.{length-take-le}
 use Rattle.wat.specs.declared.{LexError.LexError, Refusal.Refusal}
@@ -24,7 +25,7 @@ pub and-off : {a r : Bool} (b : Bool) → r ≡ a → r ≡ false → r ≡ a &&
 and-off b p t = rw (← p, t)
 
 pub formatted : {old new v : List ℕ} {n : ℕ} {e f : LexError} → e ≡ f → length old ≡ 64 → (tellable f ≡ true → Displays f v) → Put old new 0 v n → Formatted e new n
-formatted q l d p = rw q (record { room = put-length p ∙ l; fits = omega (arith, p .fits); says = λ t. rw (put-front p) (d t) })
+formatted q l d p = rw q (record { room = put-length p ∙ l; fits = omega (arith, p .ends, p .stands .fits); says = λ t. rw (put-front p) (d t) })
 
 pub untold : {r : Refusal} {e : LexError} {buffer : List ℕ} → r ≡ Lexical e → tellable e ≡ false → Tells r buffer (Refused NoMessage) buffer
 untold {e = e} q t = Tells.none (λ e′ m q′ d. let z : e′ ≡ e = cc in both (rw z at (has-message d)) t)
@@ -40,7 +41,6 @@ module _ {r : Refusal} {e : LexError} {buffer text : List ℕ} {n : ℕ} (q : r 
   pub delivered : {new : List ℕ} {end : ℕ} → n ≤ length buffer → Put buffer new 0 (take n text) end → Tells r buffer (Written n) new
   delivered {new} {end} h p =
       let m = take n text in
-      let k : end ≡ length m = omega (arith, p .ends) in
-      let z : new ≡ m ++ drop (length m) buffer = p .bytes ∙ ap (λ i. m ++ drop i buffer) k in
+      let z : new ≡ m ++ drop (length m) buffer = p .stands .is ∙ ap (λ i. m ++ drop i buffer) (zero-add (length m)) in
       let y : Tells r buffer (Written (length m)) (m ++ drop (length m) buffer) = Tells.told q (f .says t) (omega (arith, formatted-length f)) in
       rw (z, ap Written (formatted-length f)) y

@@ -4,7 +4,6 @@ ghost use mathlib.Core.Path.{_≡_};
 ghost use mathlib.Core.List.{_++_};
 ghost use lib.ListN.{length};
 ghost use Rattle.wat.specs.Bytes.{bytes};
-ghost use Rattle.wat.specs.Chars.{isScalar, confusing};
 ghost use Rattle.wat.specs.StringModel.{letterOf};
 ghost use Rattle.wat.specs.Messages.{figure, named, Tells};
 ghost use Rattle.messages.specs.MessageModel.{hex, letterByte, shown, tellable};
@@ -18,11 +17,7 @@ fn append(out: &mut [u8], at: usize, text: &[u8]) -> usize
     requires { ⌜ at + length (now text) ≤ length (now out) ⌝ }
     ensures { λ r. ⌜ Put (now (out .entry)) (now (out .exit)) at (now (text .entry)) r ⌝ }
 {
-    let mut i: usize = 0;
-    while i < text.len() {
-        out[at + i] = text[i];
-        i += 1;
-    }
+    utf8::copy(out, at, text, 0, text.len());
     at + text.len()
 }
 
@@ -142,32 +137,18 @@ fn fmt(e: LexError, out: &mut [u8]) -> usize
     }
 }
 
-fn is_scalar(c: u32) -> bool
-    ensures { λ r. ⌜ r ≡ isScalar c ⌝ }
-{
-    c < 0xD800 || (0xE000 <= c && c <= 0x10FFFF)
-}
-
-fn is_confusing_unicode(c: u32) -> bool
-    ensures { λ r. ⌜ r ≡ confusing c ⌝ }
-{
-    match c {
-        0x202A | 0x202B | 0x202D | 0x202E | 0x2066 | 0x2067 | 0x2068 | 0x2069 | 0x206C => true,
-        _ => false,
-    }
-}
-
 // Whether the error has a message: its characters are scalar values, and a confusing one is one of the nine.
 fn has_message(e: LexError) -> bool
     ensures { λ r. ⌜ r ≡ tellable e ⌝ }
 {
     match e {
-        LexError::Unexpected(c) => is_scalar(c),
-        LexError::InvalidStringElement(c) => is_scalar(c),
-        LexError::InvalidStringEscape(c) => is_scalar(c),
-        LexError::InvalidHexDigit(c) => is_scalar(c),
-        LexError::Expected { wanted, found } => is_scalar(wanted) && is_scalar(found),
-        LexError::ConfusingUnicode(c) => is_confusing_unicode(c),
+        LexError::Unexpected(c) => classes::is_scalar(c),
+        LexError::InvalidStringElement(c) => classes::is_scalar(c),
+        LexError::InvalidStringEscape(c) => classes::is_scalar(c),
+        LexError::InvalidHexDigit(c) => classes::is_scalar(c),
+        LexError::Expected { wanted, found } => classes::is_scalar(wanted)
+            && classes::is_scalar(found),
+        LexError::ConfusingUnicode(c) => classes::is_confusing_unicode(c),
         LexError::DanglingBlockComment => true,
         LexError::UnexpectedEof => true,
         LexError::NumberTooBig => true,

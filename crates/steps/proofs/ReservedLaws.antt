@@ -8,7 +8,6 @@ use native.Mathlib.Nat.{add-zero}
 use lib.ListN.{length, getD, take, drop}
 use lib.Seq.{slice, length-slice, take-append-add}
 use Rattle.wat.specs.declared.TokenKind.{TokenKind}
-use Rattle.wat.specs.declared.TokenKind.the-variants as kind
 use Rattle.wat.specs.declared.LexError.{LexError}
 use Rattle.wat.specs.declared.Answer.the-variants as answer
 use Rattle.wat.specs.Bytes.{byte, Each}
