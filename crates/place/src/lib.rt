@@ -1,17 +1,9 @@
 // The place counter by value: document 01's lines and columns, as wat's Places defines them.
-ghost use mathlib.Core.Path.{_≡_};
-ghost use Rattle.wat.specs.Places.{new, Moves};
+ghost use Rattle.wat.specs.Places.{Moves};
 use wat::Moved;
 use wat::Place;
 
-const LAST: u32 = 4_294_967_295;
-
-// Where a text begins.
-pub fn start() -> Place
-    ensures { λ r. ⌜ r ≡ new ⌝ }
-{
-    Place { line: 1, column: 1 }
-}
+const LAST: u32 = Place::LAST;
 
 // The counter moved over the bytes of a token; refused by 35, and unchanged, where line or column would pass the last number at any byte.
 pub fn move_over(p: Place, w: &[u8]) -> Moved

@@ -1,6 +1,6 @@
 -- The listing, by a function that computes. `proofs/Divisions.antt` shows that it says what `Lists` asks.
 use Prim.Native.Nat.{ℕ, zero, suc, _+_, _-_}
-use mathlib.Core.Bool.{Bool, true, false}
+use mathlib.Core.Bool.{true, false}
 use mathlib.Core.List.{List, [], _∷_}
 use lib.Dec.{ltb}
 use lib.ListN.{drop}
