@@ -1,13 +1,13 @@
 -- From the parts of a literal, and the places where they end, to its kind.
 -- Assumes nothing.
-use Prim.Native.Nat.{ℕ, _+_, _≤_, _<_}
+use Prim.Native.Nat.{ℕ, _+_, _≤_}
 use native.Mathlib.Nat.{add-zero}
 use native.Mathlib.Omega.{arith}
 use mathlib.Core.Path.{_≡_, refl, sym, ap, _∙_, subst}
 use mathlib.Core.Logic.{_⊎_, inl, inr}
 use mathlib.Core.Bool.{Bool, true, false, not, _||_}
 use mathlib.Core.List.{List, [], _∷_}
-use mathlib.Core.Option.{Option, none, some}
+use mathlib.Core.Option.{none, some}
 use lib.Dec.{eqb}
 use lib.ListN.{length}
 use lib.Seq.{slice}
@@ -16,7 +16,7 @@ use Rattle.wat.specs.declared.Number.{Number}
 use Rattle.wat.specs.declared.Number.the-variants.{Integer, Inf, Nan, NanVal, Normal, Neither}
 use Rattle.wat.specs.Bytes.{between}
 use Rattle.wat.specs.Numbers.{digit, negative, prefix, inf, nan, nan-colon, Literal, KindOf}
-use Rattle.wat.specs.NumberModel.{Past, bad, past, and-past, run, strip, is, nothing-left, fraction, exponent, at-end, then, decide, finite, payload, unsigned, classify}
+use Rattle.wat.specs.NumberModel.{Past, bad, past, run, strip, is, nothing-left, fraction, exponent, at-end, then, decide, finite, payload, unsigned, classify}
 use Rattle.wat.proofs.Numbers.Digits.{apart}
 use Rattle.wat.proofs.Numbers.Decides.{complete, sound}
 use Rattle.numbers.specs.declared.Skip.{Skip}

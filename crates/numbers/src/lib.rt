@@ -95,7 +95,7 @@ fn is_word(text: &[u8], at: usize, end: usize, word: &[u8]) -> bool
     false
 }
 
-fn sign_at(text: &[u8], at: usize, end: usize) -> Sign
+pub fn sign_at(text: &[u8], at: usize, end: usize) -> Sign
     requires { ⌜ (at ≤ end) × (end ≤ length (now text)) ⌝ }
     ensures { λ r. ⌜ r ≡ sign-of (slice at end (now (text .entry))) ⌝ }
 {
@@ -112,7 +112,7 @@ fn sign_at(text: &[u8], at: usize, end: usize) -> Sign
     Sign::Unsigned
 }
 
-fn past_sign(text: &[u8], at: usize, end: usize) -> usize
+pub fn past_sign(text: &[u8], at: usize, end: usize) -> usize
     requires { ⌜ (at ≤ end) × (end ≤ length (now text)) ⌝ }
     ensures { λ r. ⌜ PastSign (now (text .entry)) at end r ⌝ }
 {
@@ -136,7 +136,7 @@ fn is_negative(sign: Sign) -> bool
     }
 }
 
-fn fraction_at(text: &[u8], at: usize, end: usize, hex: bool) -> Skip
+pub fn fraction_at(text: &[u8], at: usize, end: usize, hex: bool) -> Skip
     requires { ⌜ (at ≤ end) × (end ≤ length (now text)) ⌝ }
     ensures { λ r. ⌜ Skipped (now (text .entry)) end (fraction hex (slice at end (now (text .entry)))) r ⌝ }
 {

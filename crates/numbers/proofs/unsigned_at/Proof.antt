@@ -4,7 +4,6 @@ use borrow.Author.Needs.{needs}
 use Prim.Native.Nat.{_+_, _≤_}
 use mathlib.Core.Path.{sym, ap, _∙_}
 use native.Mathlib.Omega.{arith}
-use lib.ListN.{getD}
 use lib.Seq.{slice}
 use Rattle.wat.specs.NumberModel.{unsigned}
 use Rattle.numbers.proofs.SliceLaws.{at-byte, at-end-empty}

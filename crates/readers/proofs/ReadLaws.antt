@@ -1,0 +1,128 @@
+-- From a token that is there, and of a kind, to what its reader leaves. Assumes nothing.
+use Prim.Native.Nat.{ℕ, zero, suc, _-_}
+use mathlib.Core.Path.{_≡_, refl, sym, ap, subst, _∙_}
+use mathlib.Core.List.{List, [], _∷_}
+use native.Mathlib.Omega.{arith}
+use native.Mathlib.Nat.{add-zero}
+use lib.ListN.{take, drop}
+use lib.Seq.{drop-drop}
+use Rattle.wat.specs.declared.TokenKind.{TokenKind}
+use Rattle.wat.specs.declared.TokenKind.the-variants as kind
+use Rattle.wat.specs.declared.Token.{Token}
+use Rattle.wat.specs.declared.LexError.{LexError}
+use Rattle.wat.specs.declared.LexError.the-variants.{EmptyId, EmptyAnnotation}
+use Rattle.wat.specs.declared.Refusal.{Refusal}
+use Rattle.wat.specs.declared.Refusal.the-variants.{NotThatKind}
+use Rattle.wat.specs.declared.Reading.{Reading}
+use Rattle.wat.specs.declared.Reading.the-variants as reading
+use Rattle.wat.specs.Bytes.{byte}
+use Rattle.wat.specs.Settings.{lenient}
+use Rattle.wat.specs.Strings.{Str}
+use Rattle.wat.specs.Values.{Reader, Takes, Value, Name, Reads}
+use Rattle.wat.specs.Reading.{There, own, Handed, Read}
+use Rattle.wat.proofs.Hexnums.{differ}
+use Rattle.wat.proofs.OneValue as one
+use Rattle.readers.specs.declared.Presence.{Presence}
+use Rattle.readers.specs.declared.Presence.the-variants as presence
+use Rattle.readers.specs.Here.{Taken}
+use Rattle.readers.specs.Names.{Quoted, Quotes, tail, Sigiled, Names}
+use Rattle.readers.proofs.HandLaws.{handed-part, handed-left, handed-short, handed-copy}
+use Rattle.readers.proofs.PresentLaws.{there-token, there-long, there-fits}
+
+pub src-reads : {text : List ℕ} {token : Token} → There text token → Read Reader.src text token [] (reading.Text (token .offset) (token .len)) []
+src-reads {text} {token} t = Read.reads t Reads.itself (handed-part (token .offset) [] (sym (add-zero (token .offset))) (sym (there-long t)))
+
+-- ---- 31
+
+module _ {text : List ℕ} {token : Token} {k : TokenKind} where
+  pub taken-there : {m : Presence} → Taken text token k m → m ≡ presence.There → There text token × (token .kind ≡ k)
+  taken-there (Taken.taken t e) q = (t, e)
+  taken-there (Taken.barred b) q = differ (cc)
+  taken-there (Taken.other-kind t n) q = differ (cc)
+
+  pub taken-refused : {m : Presence} {r : Refusal} (reader : Reader) (buffer : List ℕ) → ((j : TokenKind) → Takes reader j → j ≡ k)
+      → Taken text token k m → m ≡ presence.Refused r → Read reader text token buffer (reading.Refused r) buffer
+  taken-refused reader buffer only (Taken.taken t e) q = differ (cc)
+  taken-refused {r = r} reader buffer only (Taken.barred {r = x} b) q = let y : x ≡ r = cc in rw (← y) (Read.barred b)
+  taken-refused {r = r} reader buffer only (Taken.other-kind t n) q =
+      let y : NotThatKind ≡ r = cc in
+      rw (← y) (Read.other-kind t (λ h. n (only (token .kind) h)))
+
+pub only-string : (j : TokenKind) → Takes Reader.string j → j ≡ kind.String
+only-string j Takes.a-string = refl
+
+module _ {text : List ℕ} {token : Token} (k : TokenKind) (t : There text token × (token .kind ≡ k)) where
+  -- the token has a value for the reader
+  value : {reader : Reader} → Takes reader k → (v : Value) × Reads reader k (own text token) v
+  value h = one.reads (rw (t .1) at (there-token (t .0))) h
+
+  read : {reader : Reader} {v : Value} {buffer after : List ℕ} {r : Reading} → Reads reader k (own text token) v → Handed (token .offset) v buffer r after
+      → Read reader text token buffer r after
+  read {reader} {v} l h = Read.reads (t .0) (subst (λ (j : TokenKind). Reads reader j (own text token) v) (sym (t .1)) l) h
+
+-- ---- strings
+
+module _ {text : List ℕ} {token : Token} (t : There text token × (token .kind ≡ kind.String)) where
+  pub string-quoted : Quoted text (token .offset) (token .len)
+  string-quoted = let s = go (value kind.String t Takes.a-string .1) in record { fits = there-fits (t .0); value = s .0; is = s .1 }
+    where
+      go : {w : List ℕ} {v : Value} → Reads Reader.string kind.String w v → (u : List ℕ) × Str lenient w u
+      go (Reads.a-string p) = (_, p)
+
+  pub string-reads : {buffer after : List ℕ} {r : Reading} → Quotes (own text token) (token .offset) buffer r after
+      → Read Reader.string text token buffer r after
+  string-reads {buffer} (Quotes.plain {v = v} p h) = read kind.String t (Reads.a-string p) (handed-left (token .offset) buffer v 1 h refl refl)
+  string-reads {buffer} (Quotes.too-short {v = v} p h f) = read kind.String t (Reads.a-string p) (handed-short (token .offset) buffer v 1 h f)
+  string-reads {buffer} (Quotes.copied {v = v} p h f) = read kind.String t (Reads.a-string p) (handed-copy (token .offset) buffer v 1 h f refl)
+
+-- ---- names
+
+tail-is : (text : List ℕ) (token : Token) {x : ℕ} {w : List ℕ} → own text token ≡ x ∷ w → w ≡ tail text token
+tail-is text token {x} {w} e = go (token .len) (drop (token .offset) text) refl e ∙ ap (take (token .len - 1)) (drop-drop 1 (token .offset) text)
+  where
+    go : (n : ℕ) (t : List ℕ) → drop (token .offset) text ≡ t → take n t ≡ x ∷ w → w ≡ take (n - 1) (drop 1 t)
+    go zero t q e = differ (cc)
+    go (suc n) [] q e = differ (cc)
+    go (suc n) (y ∷ t) q e = let m : suc n - 1 ≡ n = omega arith in rw m (cc)
+
+-- a reader of names takes one kind, whose tokens are the byte x and a name
+pub record Naming (reader : Reader) (k : TokenKind) (x : ℕ) (e : LexError) : Type 0 where
+  pub takes : Takes reader k
+  pub only : (j : TokenKind) → Takes reader j → j ≡ k
+  pub reads : {w : List ℕ} {v : Value} → Name e w v → Reads reader k (x ∷ w) v
+  pub named : {w : List ℕ} {v : Value} → Reads reader k w v → (t : List ℕ) × (w ≡ x ∷ t) × Name e t v
+
+pub id-naming : Naming Reader.id kind.Id (byte "$") EmptyId
+id-naming = record { takes = Takes.an-id; only = only; reads = λ n. Reads.an-id n; named = named }
+  where
+    only : (j : TokenKind) → Takes Reader.id j → j ≡ kind.Id
+    only j Takes.an-id = refl
+
+    named : {w : List ℕ} {v : Value} → Reads Reader.id kind.Id w v → (t : List ℕ) × (w ≡ byte "$" ∷ t) × Name EmptyId t v
+    named (Reads.an-id n) = (_, refl, n)
+
+pub annotation-naming : Naming Reader.annotation kind.Annotation (byte "@") EmptyAnnotation
+annotation-naming = record { takes = Takes.an-annotation; only = only; reads = λ n. Reads.an-annotation n; named = named }
+  where
+    only : (j : TokenKind) → Takes Reader.annotation j → j ≡ kind.Annotation
+    only j Takes.an-annotation = refl
+
+    named : {w : List ℕ} {v : Value} → Reads Reader.annotation kind.Annotation w v → (t : List ℕ) × (w ≡ byte "@" ∷ t) × Name EmptyAnnotation t v
+    named (Reads.an-annotation n) = (_, refl, n)
+
+module _
+    {reader : Reader} {k : TokenKind} {x : ℕ} {e : LexError} (g : Naming reader k x e)
+    {text : List ℕ} {token : Token} (t : There text token × (token .kind ≡ k)) where
+  split : (own text token ≡ x ∷ tail text token) × (v : Value) × Name e (tail text token) v
+  split =
+      let v = value k t (g .takes) in
+      let n = g .named (v .1) in
+      let y = tail-is text token (n .1) in
+      (rw y at (n .1), v .0, rw y at (n .2))
+
+  pub name-sigiled : Sigiled e text token
+  name-sigiled = let s = split in record { there = t .0; sigil = x; is = s .0; value = s .1; named = s .2 }
+
+  pub name-reads : {buffer after : List ℕ} {r : Reading} → Names e (tail text token) (token .offset) buffer r after
+      → Read reader text token buffer r after
+  name-reads n = read k t (subst (λ (w : List ℕ). Reads reader k w (n .value)) (sym (split .0)) (g .reads (n .is))) (n .handed)
