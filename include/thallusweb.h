@@ -14,7 +14,11 @@
  *    4  position inside a character                   19  no Unicode scalar value: the number
  *   10  block comment that is never closed            20  an underscore that no digit follows
  *   11  unexpected character: the character           21  confusing character: the character
- *   12  character that no string holds raw: it        33  no room in the list for the next token
+ *   12  character that no string holds raw: it        22  name is not UTF-8: as 2, of the decoded name
+ *   23  empty identifier                              32  the buffer is shorter than the copy
+ *   24  empty annotation                              33  no room in the list for the next token
+ *   30  no such token there                           34  no error has such a message
+ *   31  the token's kind is not the reader's          35  line or column over 4,294,967,295
  *
  * Kinds: 1 line comment, 2 block comment, 3 whitespace, 4 (, 5 ), 6 string, 7 id, 8 keyword, 9 annotation, 10 reserved, 11 integer,
  * 12 inf, 13 nan, 14 nan:0x.., 15 any other float; plus 256 for an integer's +, 512 for its - or a negative 12, 13 or 14, 1024 with
@@ -30,6 +34,11 @@
 #ifdef __cplusplus
 extern "C" {
 #endif
+
+/* The longest text, the bytes of a token's record, and a buffer that holds every message. */
+#define THALLUSWEB_MAX_TEXT 16777216
+#define THALLUSWEB_RECORD 6
+#define THALLUSWEB_MESSAGE 64
 
 /* Whether the text is UTF-8. out: 0, 0, 0; or 2, valid-up-to, error length. */
 void thallusweb_utf8_check(const uint8_t *text, size_t len, uint64_t out[3]);
@@ -51,6 +60,51 @@ void thallusweb_annotation(const uint8_t *text, size_t len, bool allow_confusing
  * thallusweb_parse leaves there after an error. The text is checked once, however many tokens there are. */
 void thallusweb_list(const uint8_t *text, size_t len, bool allow_confusing, size_t start, size_t budget, uint8_t *list,
                      size_t list_len, uint64_t out[7]);
+
+/* Readers, by number. What each gives is in README.md. */
+enum {
+    THALLUSWEB_SRC,        /* the token's own bytes; takes every kind */
+    THALLUSWEB_STRING,     /* the bytes that a string stands for; kind 6 */
+    THALLUSWEB_ID,         /* the name behind a $; kind 7 */
+    THALLUSWEB_ANNOTATION, /* the name behind an @; kind 9 */
+    THALLUSWEB_INTEGER,    /* an integer's digits, with its -; kind 11 */
+    THALLUSWEB_INTEGRAL,   /* a float's parts; kinds 12 to 15 */
+    THALLUSWEB_FRACTION,
+    THALLUSWEB_EXPONENT,
+    THALLUSWEB_PAYLOAD
+};
+
+/* A reader's first call. token: kind, offset and length, as thallusweb_parse leaves them in out[1], out[2] and out[3], so that `out + 1`
+ * will do. The value's bytes are a part of the text, or a copy at the front of the buffer; a buffer as long as the token
+ * always holds one. out[0] is
+ *   0  the kind has no such part
+ *   1  a part of the text:    out[1] its start, out[2] its length
+ *   2  a refusal:             out[1] its number (1 to 4, 22 to 24, 30 to 32), out[2] its place (0 for 30 to 32), out[3] and out[4] its values
+ *   3  a part of the buffer:  out[1] its start, out[2] its length
+ * A reader's number that is not above is refused by 31. A refusal leaves the buffer as it was, but 22, which leaves the decoded name in it.
+ * Each call checks the whole text; handed the token's bytes alone, as a text, with the offset 0, it gives the same value for the
+ * price of the token. */
+void thallusweb_read(const uint8_t *text, size_t len, uint64_t reader, const uint64_t token[3], uint8_t *buffer, size_t buffer_len,
+                     uint64_t out[5]);
+
+/* A reader's second call: the part that the first call's answer names, if there is one. out: 1 (of the text) or 3 (of the buffer), start and
+ * length; or 0, 0, 0 for an empty part, where the answer is no part or its part is not inside. Any answer may be handed to it. */
+void thallusweb_part(const uint8_t *text, size_t len, const uint8_t *buffer, size_t buffer_len, const uint64_t answer[5], uint64_t out[3]);
+
+/* An integer's sign. out[0] is 1, and out[1] 0 for none, 1 for + and 2 for -; or 2 and a refusal, as above. */
+void thallusweb_integer_sign(const uint8_t *text, size_t len, const uint64_t token[3], uint64_t out[5]);
+
+/* Whether an inf or nan is negative. out[0] is 1, and out[1] 0 or 1; 0 for any other float, whose sign is in its integral part; or 2 and a
+ * refusal, as above. */
+void thallusweb_float_sign(const uint8_t *text, size_t len, const uint64_t token[3], uint64_t out[5]);
+
+/* The message of an error, 10 to 24, with its values as a refusal has them (those that it does not carry are not looked at). out[0] is 1,
+ * and out[1] the message's length, at the front of the buffer; or 2 and a refusal, 34 or 32. It is no C string: no 0 follows it. */
+void thallusweb_message(uint64_t number, uint64_t first, uint64_t second, uint8_t *buffer, size_t buffer_len, uint64_t out[5]);
+
+/* The place counter: line and column, each from 1, so that a new one is { 1, 1 }. It is moved over a token's bytes; columns count bytes. False
+ * is 35, and leaves it as it was. */
+bool thallusweb_move(uint32_t place[2], const uint8_t *bytes, size_t len);
 
 #ifdef __cplusplus
 }

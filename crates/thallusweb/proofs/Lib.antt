@@ -1,1 +1,3 @@
 pub mod WordLaws
+mod ReadLaws
+pub mod OneWords
