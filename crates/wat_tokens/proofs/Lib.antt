@@ -1,0 +1,4 @@
+mod DecimalLaws
+mod WritingLaws
+mod RecordLaws
+pub mod OutputLaws
