@@ -60,6 +60,13 @@ impl From<Error> for Fault {
     }
 }
 
+impl Fault {
+    /// The message of an error, and the error by its numbers.
+    pub fn from_error(error: Error) -> (String, Fault) {
+        (error.to_string(), Fault::from(error))
+    }
+}
+
 /// What lexing at a position answers.
 #[derive(Clone, Copy, Debug, PartialEq)]
 pub enum Answer {

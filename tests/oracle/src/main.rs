@@ -1,5 +1,8 @@
 //! The oracle as a program: see `HELP`.
 
+mod compare;
+mod record;
+
 use oracle::numbers;
 use oracle::texts::Texts;
 use oracle::{Answer, Oracle, utf8};
@@ -13,6 +16,13 @@ oracle: what the Rust original says of texts, in the numbers of document 01
 
   oracle tokens [--allow-confusing]
       prints the tokens of standard input as the program wat-tokens does
+
+  oracle compare-tokens [--texts N] [--seed S] PROGRAM
+      runs PROGRAM, which is wat-tokens, on N random texts (default 1000, seed 1) and on telling ones, and compares what it
+      prints with what 'oracle tokens' prints, byte for byte; names the first text that differs
+
+  oracle record [--rows N] [--seed S]
+      writes N rows of answers (default 7000, seed 1) for the program of crates/replay
 
   oracle rows lex [--rows N] [--seed S]
       prints the answers for N different texts of at most 40 bytes (default 20000, seed 1), one to a line:
@@ -37,12 +47,26 @@ const ROW: usize = 40;
 fn main() -> io::Result<ExitCode> {
     let words: Vec<String> = std::env::args().skip(1).collect();
     let words: Vec<&str> = words.iter().map(String::as_str).collect();
+    if let ["record", options @ ..] = &words[..]
+        && let Some((rows, seed)) = rows_and_seed("--rows", 7_000, options)
+    {
+        io::stdout().write_all(&record::rows(rows, seed))?;
+        return Ok(ExitCode::SUCCESS);
+    }
     let out = match words[..] {
         ["--help" | "-h"] => Some(HELP.to_string()),
         ["tokens"] => Some(tokens(&input()?, false)),
         ["tokens", "--allow-confusing"] => Some(tokens(&input()?, true)),
-        ["rows", "lex", ref options @ ..] => rows_and_seed(options).map(|(rows, seed)| lex_rows(rows, seed)),
-        ["rows", "utf8", ref options @ ..] => rows_and_seed(options).map(|(rows, seed)| utf8_rows(rows, seed)),
+        ["compare-tokens", ref options @ .., program] => match rows_and_seed("--texts", 1_000, options) {
+            Some((texts, seed)) => Some(compare::tokens(program, texts, seed)?),
+            None => None,
+        },
+        ["rows", "lex", ref options @ ..] => {
+            rows_and_seed("--rows", 20_000, options).map(|(rows, seed)| lex_rows(rows, seed))
+        }
+        ["rows", "utf8", ref options @ ..] => {
+            rows_and_seed("--rows", 20_000, options).map(|(rows, seed)| utf8_rows(rows, seed))
+        }
         _ => None,
     };
     match out {
@@ -63,11 +87,11 @@ fn input() -> io::Result<Vec<u8>> {
     Ok(bytes)
 }
 
-fn rows_and_seed(options: &[&str]) -> Option<(usize, u64)> {
-    let (mut rows, mut seed) = (20_000, 1);
+fn rows_and_seed(name: &str, default: usize, options: &[&str]) -> Option<(usize, u64)> {
+    let (mut rows, mut seed) = (default, 1);
     for option in options.chunks(2) {
         match *option {
-            ["--rows", n] => rows = n.parse().ok()?,
+            [word, n] if word == name => rows = n.parse().ok()?,
             ["--seed", n] => seed = n.parse().ok()?,
             _ => return None,
         }

@@ -113,8 +113,24 @@ fn rows() {
 }
 
 #[test]
+fn recorded_answers() {
+    let output = Command::new(env!("CARGO_BIN_EXE_oracle")).arg("record").output().unwrap();
+    let kept = std::fs::read("../../crates/replay/data/answers").unwrap();
+    assert!(output.stdout == kept, "crates/replay/data/answers is what 'oracle record' writes");
+}
+
+#[test]
 fn usage() {
-    for words in [&[][..], &["token"], &["tokens", "x"], &["rows"], &["rows", "lex", "--rows"], &["rows", "lex", "9"]] {
+    for words in [
+        &[][..],
+        &["token"],
+        &["tokens", "x"],
+        &["rows"],
+        &["rows", "lex", "--rows"],
+        &["rows", "lex", "9"],
+        &["record", "9"],
+        &["compare-tokens"],
+    ] {
         assert_eq!(run(words, b""), (Some(2), String::new()), "{words:?}");
     }
     let (status, help) = run(&["--help"], b"");

@@ -1,0 +1,379 @@
+//! Answers of the Rust, recorded for the program of crates/replay, whose first comment has the layout of a row.
+
+use oracle::listing::Stop;
+use oracle::readers::Token;
+use oracle::texts::Texts;
+use oracle::{Answer, Fault, Oracle, numbers, utf8};
+use std::borrow::Cow;
+use std::collections::BTreeMap;
+
+const ROW: usize = 152;
+const TEXT: usize = 40;
+/// The longest list or buffer that is lent.
+const LENT: usize = 64;
+/// What stands in a lent list or buffer where nothing was written.
+const UNTOUCHED: u8 = 238;
+/// The number that no reader has; those below are readers.
+const NO_READER: usize = 9;
+
+/// What is recorded of an answer: seven numbers, a message, and the lent list or buffer afterwards.
+#[derive(Default)]
+struct Recorded {
+    numbers: [usize; 7],
+    message: String,
+    lent: Vec<u8>,
+}
+
+impl Recorded {
+    fn refused(number: u8, data: [u32; 2], place: usize) -> Recorded {
+        let numbers = [2, number.into(), place, data[0] as usize, data[1] as usize, 0, 0];
+        Recorded { numbers, message: numbers::message(number, data).unwrap_or_default(), lent: Vec::new() }
+    }
+
+    fn fault(fault: Fault) -> Recorded {
+        Recorded::refused(fault.number, fault.data, fault.place)
+    }
+
+    fn token(kind: u16, offset: usize, len: u32) -> Recorded {
+        Recorded { numbers: [1, kind.into(), offset, len as usize, 0, 0, 0], ..Recorded::default() }
+    }
+
+    /// A part of the text, 1, or of the buffer, 3.
+    fn part(what: usize, start: usize, len: usize) -> Recorded {
+        Recorded { numbers: [what, start, len, 0, 0, 0, 0], ..Recorded::default() }
+    }
+}
+
+struct Question<'a> {
+    bytes: &'a [u8],
+    flag: bool,
+    position: usize,
+    budget: usize,
+    room: usize,
+}
+
+/// The text, or refusal 2, 3 or 4.
+fn text_at(bytes: &[u8], position: usize) -> Result<&str, Recorded> {
+    let text = utf8(bytes).map_err(|data| Recorded::refused(2, data, data[0] as usize))?;
+    match position {
+        position if position > text.len() => Err(Recorded::refused(3, [0, 0], position)),
+        position if !text.is_char_boundary(position) => Err(Recorded::refused(4, [0, 0], position)),
+        _ => Ok(text),
+    }
+}
+
+/// A row: the first four bytes, then the position and the budget, or what stands there.
+fn row(head: [u8; 4], asked: [usize; 2], answer: &Recorded, text: &[u8]) -> Vec<u8> {
+    let mut row = head.to_vec();
+    for number in asked.into_iter().chain(answer.numbers) {
+        row.extend(u32::try_from(number).expect("a number of 32 bits").to_le_bytes());
+    }
+    row.push(answer.message.len() as u8);
+    row.resize(48, 0);
+    row.extend(text);
+    row.resize(88, 0);
+    row.extend(answer.message.bytes());
+    row.extend(&answer.lent);
+    row.resize(ROW, 0);
+    row
+}
+
+impl Question<'_> {
+    fn text(&self) -> Result<&str, Recorded> {
+        text_at(self.bytes, self.position)
+    }
+
+    fn parse(&self) -> Recorded {
+        let (mut recorded, after) = match self.text() {
+            Err(refused) => (refused, self.position),
+            Ok(text) => {
+                let (answer, after) = Oracle::new(text, self.flag).parse(self.position);
+                let recorded = match answer {
+                    Answer::End => Recorded::default(),
+                    Answer::Token(token) => Recorded::token(token.kind(), self.position, token.len()),
+                    Answer::Fault(fault) => Recorded::fault(fault),
+                };
+                (recorded, after)
+            }
+        };
+        recorded.numbers[5] = after;
+        recorded
+    }
+
+    fn annotation(&self) -> Recorded {
+        match utf8(self.bytes) {
+            Err(data) => Recorded::refused(2, data, data[0] as usize),
+            Ok(text) => match Oracle::new(text, self.flag).annotation(self.position) {
+                Ok(None) => Recorded::default(),
+                Ok(Some(token)) => Recorded::token(token.kind(), self.position, token.len()),
+                Err(fault) => Recorded::fault(fault),
+            },
+        }
+    }
+
+    fn list(&self) -> Recorded {
+        let mut list = vec![UNTOUCHED; LENT];
+        let mut recorded = match self.text() {
+            Err(mut refused) => {
+                refused.numbers[6] = self.position;
+                refused
+            }
+            Ok(text) => {
+                let listing = Oracle::new(text, self.flag).list(self.position, self.budget, &mut list[..self.room]);
+                let mut recorded = match listing.stop {
+                    Stop::End => Recorded::default(),
+                    Stop::Budget => Recorded { numbers: [1, 0, 0, 0, 0, 0, 0], ..Recorded::default() },
+                    Stop::Fault(fault) => Recorded::fault(fault),
+                    Stop::Full => Recorded { numbers: [3, 33, 0, 0, 0, 0, 0], ..Recorded::default() },
+                };
+                recorded.numbers[5] = listing.count;
+                recorded.numbers[6] = listing.position;
+                recorded
+            }
+        };
+        recorded.message.clear();
+        recorded.lent = list;
+        recorded
+    }
+
+    fn row(&self, kind: u8, answer: &Recorded) -> Vec<u8> {
+        let head = [kind, self.flag.into(), self.bytes.len() as u8, self.room as u8];
+        row(head, [self.position, self.budget], answer, self.bytes)
+    }
+}
+
+/// What a reader leaves of a token.
+enum Value {
+    Absent,
+    Part {
+        start: usize,
+        len: usize,
+    },
+    Copy(Vec<u8>),
+    /// an error, and what was copied before it was found
+    Fault(Fault, Vec<u8>),
+    OtherKind,
+}
+
+impl Value {
+    fn bytes(text: &str, cow: Cow<[u8]>) -> Value {
+        match cow {
+            Cow::Borrowed(part) => Value::Part { start: part.as_ptr().addr() - text.as_ptr().addr(), len: part.len() },
+            Cow::Owned(bytes) => Value::Copy(bytes),
+        }
+    }
+
+    fn spelling(text: &str, cow: Cow<str>) -> Value {
+        match cow {
+            Cow::Borrowed(part) => Value::bytes(text, Cow::Borrowed(part.as_bytes())),
+            Cow::Owned(copy) => Value::Copy(copy.into_bytes()),
+        }
+    }
+
+    /// A name: what stands behind the first byte, decoded if it is quoted.
+    fn name(text: &str, token: &Token, name: Result<Cow<str>, Fault>) -> Value {
+        let fault = match name {
+            Ok(name) => return Value::spelling(text, name),
+            Err(fault) => fault,
+        };
+        let alone = Oracle::new(&text[token.offset() + 1..][..token.len() as usize - 1], true);
+        let decoded = match alone.parse(0).0 {
+            Answer::Token(quoted) if fault.number == 22 => alone.string(&quoted).map(Cow::into_owned),
+            _ => None,
+        };
+        Value::Fault(fault, decoded.unwrap_or_default())
+    }
+
+    fn read(oracle: &Oracle, reader: usize, token: &Token) -> Value {
+        let text = oracle.text();
+        let value = match reader {
+            0 => Some(Value::spelling(text, Cow::Borrowed(oracle.src(token)))),
+            1 => oracle.string(token).map(|bytes| Value::bytes(text, bytes)),
+            2 => oracle.id(token).map(|name| Value::name(text, token, name)),
+            3 => oracle.annotation_name(token).map(|name| Value::name(text, token, name)),
+            4 => oracle.integer(token).map(|integer| Value::spelling(text, integer.digits)),
+            5..NO_READER => oracle.float(token).map(|float| {
+                let part = [float.integral, float.fraction, float.exponent, float.payload].into_iter().nth(reader - 5);
+                part.flatten().map_or(Value::Absent, |part| Value::spelling(text, part))
+            }),
+            _ => None,
+        };
+        value.unwrap_or(Value::OtherKind)
+    }
+}
+
+/// A reader's first call.
+struct Reading<'a> {
+    bytes: &'a [u8],
+    reader: usize,
+    kind: usize,
+    offset: usize,
+    len: usize,
+    room: usize,
+}
+
+impl<'a> Reading<'a> {
+    /// Of a token that is there, most often by a reader that takes its kind; now and then of one that nobody gave.
+    fn any(bytes: &'a [u8], chance: &mut Texts) -> Reading<'a> {
+        let mut offset = if chance.below(2) == 0 { 0 } else { chance.boundary(&String::from_utf8_lossy(bytes)) };
+        let found = match text_at(bytes, offset) {
+            Ok(text) => Oracle::new(text, true).parse(offset).0,
+            Err(_) => Answer::End,
+        };
+        let (mut kind, mut len) = match found {
+            Answer::Token(token) => (token.kind().into(), token.len() as usize),
+            _ => (1 + chance.below(15), chance.below(bytes.len() + 1)),
+        };
+        match chance.below(24) {
+            0 => kind ^= 1 << chance.below(17),
+            1 => offset = chance.below(bytes.len() + 3),
+            2 => len = chance.below(bytes.len() + 3),
+            _ => {}
+        }
+        let taking: &[usize] = match kind & 0xff {
+            6 => &[1],
+            7 => &[2],
+            9 => &[3],
+            11 => &[4],
+            12..=15 => &[5, 6, 7, 8],
+            _ => &[0],
+        };
+        let reader =
+            if chance.below(6) == 0 { chance.below(NO_READER + 1) } else { taking[chance.below(taking.len())] };
+        let room = match chance.below(3) {
+            0 => len,
+            1 => chance.below(len + 1),
+            _ => chance.below(LENT + 1),
+        };
+        Reading { bytes, reader, kind, offset, len, room }
+    }
+
+    fn refused(number: u8) -> Recorded {
+        Recorded::refused(number, [0, 0], 0)
+    }
+
+    /// The token that is asked for, if lexing with the flag on gives it.
+    fn there(&self) -> Result<(Oracle<'_>, Token), Recorded> {
+        let oracle = Oracle::new(text_at(self.bytes, self.offset)?, true);
+        match oracle.parse(self.offset).0 {
+            Answer::Token(token) if usize::from(token.kind()) == self.kind && token.len() as usize == self.len => {
+                Ok((oracle, token))
+            }
+            _ => Err(Reading::refused(30)),
+        }
+    }
+
+    fn read(&self, buffer: &mut [u8]) -> Recorded {
+        let (oracle, token) = match self.there() {
+            Err(refused) => return refused,
+            Ok(there) => there,
+        };
+        let (bytes, answer) = match Value::read(&oracle, self.reader, &token) {
+            Value::Absent => return Recorded::default(),
+            Value::OtherKind => return Reading::refused(31),
+            Value::Part { start, len } => return Recorded::part(1, start, len),
+            Value::Copy(bytes) => {
+                let len = bytes.len();
+                (bytes, Recorded::part(3, 0, len))
+            }
+            Value::Fault(fault, bytes) => (bytes, Recorded::fault(fault)),
+        };
+        match buffer.get_mut(..bytes.len()) {
+            None => Reading::refused(32),
+            Some(front) => {
+                front.copy_from_slice(&bytes);
+                answer
+            }
+        }
+    }
+
+    fn answer(&self) -> Recorded {
+        let mut buffer = vec![UNTOUCHED; LENT];
+        let mut recorded = self.read(&mut buffer[..self.room]);
+        recorded.numbers[5] = self.len;
+        recorded.message.clear();
+        recorded.lent = buffer;
+        recorded
+    }
+
+    fn row(&self, answer: &Recorded) -> Vec<u8> {
+        let head = [4, self.reader as u8, self.bytes.len() as u8, self.room as u8];
+        row(head, [self.offset, self.kind], answer, self.bytes)
+    }
+}
+
+/// Whether an answer is to be recorded: none is more than `most` times.
+fn wanted(seen: &mut BTreeMap<[usize; 2], usize>, answer: [usize; 2], most: usize) -> bool {
+    let count = seen.entry(answer).or_default();
+    *count += 1;
+    *count <= most
+}
+
+fn any_text(chance: &mut Texts) -> Vec<u8> {
+    if chance.below(12) == 0 { chance.bytes(TEXT) } else { chance.text(TEXT).into_bytes() }
+}
+
+/// Rows for random texts and byte strings: five of seven are of lexing, the rest of readers.
+pub fn rows(rows: usize, seed: u64) -> Vec<u8> {
+    let readings = rows * 2 / 7;
+    let mut chance = Texts::new(seed);
+    let mut out = lexing_rows(rows - readings, &mut chance);
+    out.extend(reading_rows(readings, &mut chance));
+    out
+}
+
+/// No answer of one token is recorded more than a fortieth of the times, by its kind or number, so that the rare ones have
+/// their share.
+fn lexing_rows(rows: usize, chance: &mut Texts) -> Vec<u8> {
+    let mut seen = BTreeMap::new();
+    let mut out = Vec::new();
+    for number in 0.. {
+        if out.len() / ROW >= rows {
+            break;
+        }
+        let text = any_text(chance);
+        let position = match chance.below(4) {
+            0 => chance.below(text.len() + 3),
+            1 => chance.boundary(&String::from_utf8_lossy(&text)),
+            _ => 0,
+        };
+        let flag = chance.below(3) == 0;
+        let question =
+            Question { bytes: &text, flag, position, budget: chance.below(12), room: chance.below(LENT + 1) };
+        let answer = question.parse();
+        if !wanted(&mut seen, [answer.numbers[0], answer.numbers[1] & 0xff], rows / 40 + 1) {
+            continue;
+        }
+        out.extend(question.row(1, &answer));
+        if number % 2 == 0 {
+            out.extend(question.row(3, &question.list()));
+        }
+        if text.contains(&b'@') || number % 8 == 1 {
+            let position = text.iter().position(|byte| *byte == b'@').unwrap_or(question.position);
+            let question = Question { position, ..question };
+            out.extend(question.row(2, &question.annotation()));
+        }
+    }
+    out
+}
+
+/// No answer is recorded more often than one in 35: a value by the reader and by where its bytes are, a refusal by its
+/// number, and 22 to 24 and 32 by the reader too.
+fn reading_rows(rows: usize, chance: &mut Texts) -> Vec<u8> {
+    let mut seen = BTreeMap::new();
+    let mut out = Vec::new();
+    while out.len() / ROW < rows {
+        let text = any_text(chance);
+        let reading = Reading::any(&text, chance);
+        let answer = reading.answer();
+        let key = match answer.numbers {
+            [2, number @ (2..=4 | 30 | 31), ..] => [NO_READER, number],
+            [2, number, ..] => [reading.reader, number],
+            [what, ..] => [reading.reader, what],
+        };
+        if wanted(&mut seen, key, rows / 35 + 1) {
+            out.extend(reading.row(&answer));
+        }
+    }
+    out
+}
