@@ -1,10 +1,11 @@
 //! One text, asked of both sides in every way: at every position, with both flags, listed with small and large budgets
-//! and lists. What document 01 adds to the Rust, the refusals 1 to 4, is expected by its rule.
+//! and lists; `reading.rs` asks the rest. What document 01 adds to the Rust, the refusals 1 to 4, is expected by its rule.
 
 use crate::ours::{self, Found, Listed, Refused, Stop};
 use oracle::listing::{self, RECORD};
 use oracle::texts::Texts;
 use oracle::{Answer, Fault, Oracle};
+use std::collections::BTreeMap;
 
 /// How many calls were compared, by what was asked.
 #[derive(Default)]
@@ -13,24 +14,29 @@ pub struct Counts {
     pub tokens: u64,
     pub annotations: u64,
     pub listings: u64,
-    /// how often each refusal was the answer for one token
-    pub refusals: [u64; 25],
+    pub readings: u64,
+    pub parts: u64,
+    pub signs: u64,
+    pub messages: u64,
+    pub moves: u64,
+    /// how often each refusal was the answer for one token or of a reader
+    pub refusals: BTreeMap<u64, u64>,
 }
 
 /// The bytes around a lent list, and what it holds before.
-const MARGIN: usize = 16;
-const CANARY: u8 = 0xa5;
+pub const MARGIN: usize = 16;
+pub const CANARY: u8 = 0xa5;
 
 fn refused(number: u64, values: [u64; 2], place: usize) -> Refused {
     Refused { number, values, place: place as u64 }
 }
 
-fn passed_on(fault: Fault) -> Refused {
+pub fn passed_on(fault: Fault) -> Refused {
     refused(fault.number.into(), fault.data.map(u64::from), fault.place)
 }
 
 /// 1 is left out: it takes a text of 16 MiB, and has a test of its own.
-fn turned(bytes: &[u8], position: usize) -> Result<&str, Refused> {
+pub fn turned(bytes: &[u8], position: usize) -> Result<&str, Refused> {
     let text = oracle::utf8(bytes).map_err(|numbers| refused(2, numbers.map(u64::from), numbers[0] as usize))?;
     if position > text.len() {
         return Err(refused(3, [0, 0], position));
@@ -101,6 +107,17 @@ impl Counts {
             self.listing(bytes, flag, 0, usize::MAX, RECORD * bytes.len());
             self.listing(bytes, flag, start, budget, room);
         }
+        for position in 0..bytes.len() {
+            match ours::parse(bytes, true, position).0 {
+                Found::Token { kind, offset, len } => self.readers(bytes, [kind, offset, len], chance),
+                Found::Refused(refused) => {
+                    self.message(refused.number, refused.values, 64);
+                    self.message(refused.number, refused.values, chance.below(64));
+                }
+                Found::Nothing => {}
+            }
+        }
+        self.made_up(bytes, chance);
     }
 
     /// Compares one token and the annotation at a position.
@@ -109,7 +126,7 @@ impl Counts {
         let expected = expected_token(bytes, flag, position);
         assert_eq!((found, after), expected, "token of {} at {position}, flag {flag}", shown(bytes));
         if let Found::Refused(refused) = found {
-            self.refusals[refused.number as usize] += 1;
+            *self.refusals.entry(refused.number).or_default() += 1;
         }
         self.tokens += 1;
         let found = ours::annotation(bytes, flag, position);
@@ -132,7 +149,7 @@ impl Counts {
 }
 
 /// A text as a Rust literal, cut where it is long.
-fn shown(bytes: &[u8]) -> String {
+pub fn shown(bytes: &[u8]) -> String {
     let cut = &bytes[..bytes.len().min(400)];
     format!("b\"{}\"{}", cut.escape_ascii(), if cut.len() < bytes.len() { ".." } else { "" })
 }

@@ -1,7 +1,9 @@
 //! Thallusweb against the Rust original, call by call: see `HELP`. Any difference is a panic that names the text.
 
+mod bindings;
 mod compare;
 mod ours;
+mod reading;
 
 use compare::Counts;
 use oracle::texts::Texts;
@@ -66,6 +68,8 @@ fn limits(counts: &mut Counts) {
     let long = ours::Refused { number: 1, values: [0, 0], place: 3 };
     assert_eq!(ours::parse(&text, false, 3), (ours::Found::Refused(long), 3));
     assert_eq!(ours::annotation(&text, false, 3), ours::Found::Refused(long));
+    let read = ours::read(&text, 0, [3, 3, 1], &mut []);
+    assert_eq!(read, ours::Reading::Refused(long));
     let mut list = [7; 12];
     let listed = ours::list(&text, false, 3, 9, &mut list);
     assert_eq!((listed.stop, listed.count, listed.position, list), (ours::Stop::Refused(long), 0, 3, [7; 12]));
@@ -80,6 +84,7 @@ fn main() -> ExitCode {
     };
     let began = Instant::now();
     let mut counts = Counts::default();
+    let mut items = 0;
     let mut chance = Texts::new(options.seed);
     limits(&mut counts);
     let all: Vec<[u8; 1]> = (0..=255).map(|byte| [byte]).collect();
@@ -91,19 +96,18 @@ fn main() -> ExitCode {
         let limit = [8, 24, 60, 200][chance.below(4)];
         let text = chance.text(limit);
         counts.text(text.as_bytes(), &mut chance);
+        items += bindings::compare(&text, false) + bindings::compare(&text, true);
         let bytes = chance.bytes(limit);
         counts.text(&bytes, &mut chance);
     }
-    let Counts { texts, tokens, annotations, listings, refusals } = counts;
+    let Counts { texts, tokens, annotations, listings, readings, parts, signs, messages, moves, refusals } = counts;
     println!(
-        "{texts} texts: {tokens} tokens, {annotations} annotations, {listings} listings agree; {:.0} s",
+        "{texts} texts: {tokens} tokens, {annotations} annotations, {listings} listings, {readings} readings, {parts} parts, {signs} signs, \
+         {messages} messages and {moves} moves of the place counter agree; {:.0} s",
         began.elapsed().as_secs_f64()
     );
-    let seen = refusals
-        .iter()
-        .enumerate()
-        .filter(|(_, count)| **count > 0)
-        .map(|(number, count)| format!("{number}: {count}"));
-    println!("refusals of one token by number: {}", seen.collect::<Vec<_>>().join(", "));
+    println!("{items} tokens and errors of the Rust bindings agree");
+    let seen = refusals.iter().map(|(number, count)| format!("{number}: {count}"));
+    println!("refusals of tokens and readers by number: {}", seen.collect::<Vec<_>>().join(", "));
     ExitCode::SUCCESS
 }

@@ -14,6 +14,43 @@ unsafe extern "C" {
         list_len: usize,
         out: *mut u64,
     );
+    fn thallusweb_read(
+        text: *const u8,
+        len: usize,
+        reader: u64,
+        token: *const u64,
+        buffer: *mut u8,
+        buffer_len: usize,
+        out: *mut u64,
+    );
+    fn thallusweb_part(
+        text: *const u8,
+        len: usize,
+        buffer: *const u8,
+        buffer_len: usize,
+        answer: *const u64,
+        out: *mut u64,
+    );
+    fn thallusweb_integer_sign(text: *const u8, len: usize, token: *const u64, out: *mut u64);
+    fn thallusweb_float_sign(text: *const u8, len: usize, token: *const u64, out: *mut u64);
+    fn thallusweb_message(number: u64, first: u64, second: u64, buffer: *mut u8, buffer_len: usize, out: *mut u64);
+    fn thallusweb_move(place: *mut u32, bytes: *const u8, len: usize) -> bool;
+}
+
+/// A token as a call takes it: its kind, offset and length.
+pub type Words = [u64; 3];
+
+/// The readers in the order of their numbers.
+pub const READERS: [&str; 9] =
+    ["src", "string", "id", "annotation", "integer", "integral", "fraction", "exponent", "payload"];
+
+/// What a reader's first call answers.
+#[derive(Clone, Copy, Debug, PartialEq, Eq)]
+pub enum Reading {
+    Absent,
+    Text { start: u64, len: u64 },
+    Buffer { start: u64, len: u64 },
+    Refused(Refused),
 }
 
 /// A refusal: its number, its values (0 where it has none) and its place.
@@ -106,4 +143,64 @@ pub fn list(text: &[u8], allow_confusing: bool, start: usize, budget: usize, lis
         _ => panic!("no listing stops by {why}, {number}"),
     };
     Listed { stop, count, position }
+}
+
+pub fn read(text: &[u8], reader: u64, token: Words, buffer: &mut [u8]) -> Reading {
+    let call = |out| unsafe {
+        let (buffer, room) = (buffer.as_mut_ptr(), buffer.len());
+        thallusweb_read(text.as_ptr(), text.len(), reader, token.as_ptr(), buffer, room, out)
+    };
+    match words(call) {
+        [0, 0, 0, 0, 0] => Reading::Absent,
+        [1, start, len, 0, 0] => Reading::Text { start, len },
+        [2, number, place, first, second] => Reading::Refused(Refused { number, values: [first, second], place }),
+        [3, start, len, 0, 0] => Reading::Buffer { start, len },
+        other => panic!("no reader answers {other:?}"),
+    }
+}
+
+/// The second call, for any words as the first call's answer.
+pub fn part(text: &[u8], buffer: &[u8], answer: [u64; 5]) -> [u64; 3] {
+    let (room, len) = (buffer.len(), text.len());
+    words(|out| unsafe { thallusweb_part(text.as_ptr(), len, buffer.as_ptr(), room, answer.as_ptr(), out) })
+}
+
+fn sign(answer: [u64; 5]) -> Result<Option<u64>, Refused> {
+    match answer {
+        [0, 0, 0, 0, 0] => Ok(None),
+        [1, sign, 0, 0, 0] => Ok(Some(sign)),
+        [2, number, place, first, second] => Err(Refused { number, values: [first, second], place }),
+        other => panic!("no sign has the words {other:?}"),
+    }
+}
+
+/// 0 for none, 1 for `+`, 2 for `-`.
+pub fn integer_sign(text: &[u8], token: Words) -> Result<Option<u64>, Refused> {
+    sign(words(|out| unsafe { thallusweb_integer_sign(text.as_ptr(), text.len(), token.as_ptr(), out) }))
+}
+
+/// 1 for a negative float, 0 for another; nothing for a float whose sign is in its integral part.
+pub fn float_sign(text: &[u8], token: Words) -> Result<Option<u64>, Refused> {
+    sign(words(|out| unsafe { thallusweb_float_sign(text.as_ptr(), text.len(), token.as_ptr(), out) }))
+}
+
+/// The length of the message, or the number of a refusal.
+pub fn message(number: u64, values: [u64; 2], buffer: &mut [u8]) -> Result<u64, u64> {
+    let call =
+        |out| unsafe { thallusweb_message(number, values[0], values[1], buffer.as_mut_ptr(), buffer.len(), out) };
+    match words(call) {
+        [1, len, 0, 0, 0] => Ok(len),
+        [2, number, 0, 0, 0] => Err(number),
+        other => panic!("no message has the words {other:?}"),
+    }
+}
+
+/// The counter afterwards, or nothing where the move is refused by 35 and left it as it was.
+pub fn move_over(place: [u32; 2], bytes: &[u8]) -> Option<[u32; 2]> {
+    let mut after = [7, place[0], place[1], 7];
+    let moved = unsafe { thallusweb_move(after[1..].as_mut_ptr(), bytes.as_ptr(), bytes.len()) };
+    assert_eq!((after[0], after[3]), (7, 7), "a number beside the counter was written");
+    let after = [after[1], after[2]];
+    assert!(moved || after == place, "a refused move changed the counter");
+    moved.then_some(after)
 }

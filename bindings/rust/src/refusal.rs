@@ -1,0 +1,142 @@
+//! Why a call is refused.
+
+use crate::ffi;
+use crate::lexer::{LexError, Utf8Error};
+use std::fmt;
+
+/// Why a call is refused.
+#[derive(Debug, Clone, PartialEq, Eq)]
+#[non_exhaustive]
+pub enum Refusal {
+    /// The text is longer than 16,777,216 bytes.
+    TooLong,
+    /// The text is not UTF-8.
+    NotUtf8(Utf8Error),
+    /// The position is past the text's end.
+    PastEnd,
+    /// The position is inside a character.
+    InsideCharacter,
+    /// The text does not lex there, or a name is no name.
+    Lex(LexError),
+    /// Lexing at the token's offset gives another token, or none.
+    NotThatToken,
+    /// The reader does not read tokens of that kind.
+    NotThatKind,
+    /// A line or column does not fit the place counter.
+    CounterFull,
+}
+
+impl Refusal {
+    /// The number that the C calls give.
+    pub fn number(&self) -> u64 {
+        match self {
+            Refusal::TooLong => 1,
+            Refusal::NotUtf8(_) => 2,
+            Refusal::PastEnd => 3,
+            Refusal::InsideCharacter => 4,
+            Refusal::Lex(error) => error.words().0,
+            Refusal::NotThatToken => 30,
+            Refusal::NotThatKind => 31,
+            Refusal::CounterFull => 35,
+        }
+    }
+
+    /// The refusal with a number and its values. The library gives no other numbers.
+    pub(crate) fn from_words(number: u64, values: [u64; 2]) -> Refusal {
+        match number {
+            1 => Refusal::TooLong,
+            2 => Refusal::NotUtf8(Utf8Error::from_words(values)),
+            3 => Refusal::PastEnd,
+            4 => Refusal::InsideCharacter,
+            31 => Refusal::NotThatKind,
+            35 => Refusal::CounterFull,
+            _ => LexError::from_words(number, values).map_or(Refusal::NotThatToken, Refusal::Lex),
+        }
+    }
+}
+
+impl fmt::Display for Refusal {
+    fn fmt(&self, f: &mut fmt::Formatter<'_>) -> fmt::Result {
+        match self {
+            Refusal::TooLong => f.write_str("text longer than 16777216 bytes"),
+            Refusal::NotUtf8(error) => write!(f, "text is not UTF-8 from byte {} on", error.valid_up_to()),
+            Refusal::PastEnd => f.write_str("position past the end of the text"),
+            Refusal::InsideCharacter => f.write_str("position inside a character"),
+            Refusal::Lex(error) => error.fmt(f),
+            Refusal::NotThatToken => f.write_str("no such token there"),
+            Refusal::NotThatKind => f.write_str("a token of another kind than the reader's"),
+            Refusal::CounterFull => f.write_str("line or column too large"),
+        }
+    }
+}
+
+impl std::error::Error for Refusal {}
+
+/// A refusal, and where it stands in the text, if it stands anywhere.
+#[derive(Debug, Clone, PartialEq, Eq)]
+pub struct Error {
+    refusal: Refusal,
+    place: Option<usize>,
+}
+
+impl Error {
+    pub(crate) fn new(refusal: Refusal, place: Option<usize>) -> Error {
+        Error { refusal, place }
+    }
+
+    /// From the last four of five words.
+    pub(crate) fn from_words([number, place, first, second]: [u64; 4]) -> Error {
+        let refusal = Refusal::from_words(number, [first, second]);
+        let place = if number < 30 { Some(place as usize) } else { None };
+        Error { refusal, place }
+    }
+
+    /// Why.
+    pub fn refusal(&self) -> &Refusal {
+        &self.refusal
+    }
+
+    /// The lexing error, if it is one: the counterpart of wast's `Error::lex_error`.
+    pub fn lex_error(&self) -> Option<&LexError> {
+        match &self.refusal {
+            Refusal::Lex(error) => Some(error),
+            _ => None,
+        }
+    }
+
+    /// Where, in bytes from the text's start.
+    pub fn place(&self) -> Option<usize> {
+        self.place
+    }
+
+    /// The message alone, as wast's `Error::message` has it.
+    pub fn message(&self) -> String {
+        self.refusal.to_string()
+    }
+}
+
+impl fmt::Display for Error {
+    fn fmt(&self, f: &mut fmt::Formatter<'_>) -> fmt::Result {
+        match self.place {
+            Some(place) => write!(f, "{} at byte {place}", self.refusal),
+            None => self.refusal.fmt(f),
+        }
+    }
+}
+
+impl std::error::Error for Error {}
+
+impl fmt::Display for LexError {
+    fn fmt(&self, f: &mut fmt::Formatter<'_>) -> fmt::Result {
+        let (number, values) = self.words();
+        let mut buffer = [0; ffi::MESSAGE];
+        let [told, len, ..] = ffi::message(number, values, &mut buffer);
+        match buffer.get(..len as usize).map(std::str::from_utf8) {
+            Some(Ok(message)) if told == 1 => f.write_str(message),
+            // a character that only looks confusing to whoever built the error
+            _ => write!(f, "{self:?}"),
+        }
+    }
+}
+
+impl std::error::Error for LexError {}

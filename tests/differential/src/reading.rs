@@ -1,0 +1,242 @@
+//! Readers, messages and the place counter, asked of both sides: of tokens that are there, and of tokens, numbers and answers that
+//! nobody gave.
+
+use crate::compare::{self, CANARY, Counts, MARGIN, shown};
+use crate::ours::{self, READERS, Reading, Refused, Words};
+use oracle::lexer::SignToken;
+use oracle::readers::Token;
+use oracle::texts::Texts;
+use oracle::{Answer, Oracle, numbers};
+use std::borrow::Cow;
+
+/// What a reader leaves of a token, by the Rust.
+enum Value {
+    Absent,
+    Part {
+        start: usize,
+        len: usize,
+    },
+    Copy(Vec<u8>),
+    /// an error, and what was copied before it was found
+    Fault(Refused, Vec<u8>),
+    OtherKind,
+}
+
+/// A `Cow` of the text as a value.
+fn value(text: &str, cow: &Cow<[u8]>) -> Value {
+    match cow {
+        Cow::Borrowed(part) => Value::Part { start: part.as_ptr().addr() - text.as_ptr().addr(), len: part.len() },
+        Cow::Owned(bytes) => Value::Copy(bytes.clone()),
+    }
+}
+
+fn as_bytes<'a>(cow: &'a Cow<str>) -> Cow<'a, [u8]> {
+    match cow {
+        Cow::Borrowed(part) => Cow::Borrowed(part.as_bytes()),
+        Cow::Owned(text) => Cow::Owned(text.clone().into_bytes()),
+    }
+}
+
+/// A name: what stands behind the first byte, decoded if it is quoted.
+fn name(text: &str, token: &Token, name: Option<Result<Cow<str>, oracle::Fault>>) -> Value {
+    match name {
+        None => Value::OtherKind,
+        Some(Ok(name)) => value(text, &as_bytes(&name)),
+        Some(Err(fault)) => {
+            let quoted = &text[token.offset() + 1..][..token.len() as usize - 1];
+            let alone = Oracle::new(quoted, true);
+            let copied = match alone.parse(0).0 {
+                Answer::Token(token) if fault.number == 22 => alone.string(&token).map(Cow::into_owned),
+                _ => None,
+            };
+            Value::Fault(compare::passed_on(fault), copied.unwrap_or_default())
+        }
+    }
+}
+
+fn left(oracle: &Oracle, reader: &str, token: &Token) -> Value {
+    let text = oracle.text();
+    let spelling = |part: Option<Cow<str>>| part.map_or(Value::Absent, |part| value(text, &as_bytes(&part)));
+    match reader {
+        "src" => value(text, &Cow::Borrowed(oracle.src(token).as_bytes())),
+        "string" => oracle.string(token).map_or(Value::OtherKind, |bytes| value(text, &bytes)),
+        "id" => name(text, token, oracle.id(token)),
+        "annotation" => name(text, token, oracle.annotation_name(token)),
+        "integer" => oracle.integer(token).map_or(Value::OtherKind, |integer| spelling(Some(integer.digits))),
+        "integral" => oracle.float(token).map_or(Value::OtherKind, |float| spelling(float.integral)),
+        "fraction" => oracle.float(token).map_or(Value::OtherKind, |float| spelling(float.fraction)),
+        "exponent" => oracle.float(token).map_or(Value::OtherKind, |float| spelling(float.exponent)),
+        "payload" => oracle.float(token).map_or(Value::OtherKind, |float| spelling(float.payload)),
+        _ => Value::OtherKind,
+    }
+}
+
+fn nowhere(number: u64) -> Refused {
+    Refused { number, values: [0, 0], place: 0 }
+}
+
+/// The token that the words name, if lexing with the flag on gives it: 1 to 4, then 30.
+fn there<'a>(bytes: &'a [u8], [kind, offset, len]: Words) -> Result<(Oracle<'a>, Token), Refused> {
+    let text = compare::turned(bytes, offset as usize)?;
+    let oracle = Oracle::new(text, true);
+    match oracle.parse(offset as usize).0 {
+        Answer::Token(token) if u64::from(token.kind()) == kind && u64::from(token.len()) == len => Ok((oracle, token)),
+        _ => Err(nowhere(30)),
+    }
+}
+
+fn expected_reading(bytes: &[u8], reader: u64, token: Words, buffer: &mut [u8]) -> Reading {
+    let (oracle, token) = match there(bytes, token) {
+        Err(refused) => return Reading::Refused(refused),
+        Ok(there) => there,
+    };
+    let mut copied = |bytes: &[u8]| {
+        let room = buffer.get_mut(..bytes.len())?;
+        room.copy_from_slice(bytes);
+        Some(())
+    };
+    let short = Reading::Refused(nowhere(32));
+    match left(&oracle, READERS.get(reader as usize).unwrap_or(&""), &token) {
+        Value::OtherKind => Reading::Refused(nowhere(31)),
+        Value::Absent => Reading::Absent,
+        Value::Part { start, len } => Reading::Text { start: start as u64, len: len as u64 },
+        Value::Copy(bytes) => copied(&bytes).map_or(short, |()| Reading::Buffer { start: 0, len: bytes.len() as u64 }),
+        Value::Fault(fault, bytes) => copied(&bytes).map_or(short, |()| Reading::Refused(fault)),
+    }
+}
+
+/// What the second call makes of an answer, by its rule.
+fn expected_part(text: &[u8], buffer: &[u8], answer: [u64; 5]) -> [u64; 3] {
+    let [what, start, len, ..] = answer;
+    let whole = match what {
+        1 => text.len() as u64,
+        3 => buffer.len() as u64,
+        _ => return [0, 0, 0],
+    };
+    if start <= whole && len <= whole - start { [what, start, len] } else { [0, 0, 0] }
+}
+
+/// The counter moved byte by byte.
+fn expected_move(place: [u32; 2], bytes: &[u8]) -> Option<[u32; 2]> {
+    bytes.iter().try_fold(place, |[line, column], byte| match byte {
+        b'\n' => Some([line.checked_add(1)?, 1]),
+        _ => Some([line, column.checked_add(1)?]),
+    })
+}
+
+impl Counts {
+    /// Every reader of a token, with a buffer as long as the token, with one that may be too short, and of the token alone.
+    pub fn readers(&mut self, bytes: &[u8], token: Words, chance: &mut Texts) {
+        let [kind, offset, len] = token;
+        let own = (offset as usize).checked_add(len as usize).and_then(|end| bytes.get(offset as usize..end));
+        for reader in 0..READERS.len() as u64 + 1 {
+            self.reading(bytes, reader, token, len.min(1000) as usize);
+            self.reading(bytes, reader, token, chance.below(len.min(1000) as usize + 1));
+            if let Some(own) = own {
+                self.reading(own, reader, [kind, 0, len], own.len());
+            }
+        }
+        let expected = there(bytes, token).and_then(|(oracle, token)| match oracle.integer(&token) {
+            None => Err(nowhere(31)),
+            Some(integer) => Ok(Some(match integer.sign {
+                None => 0,
+                Some(SignToken::Plus) => 1,
+                Some(SignToken::Minus) => 2,
+            })),
+        });
+        assert_eq!(ours::integer_sign(bytes, token), expected, "integer's sign of {token:?} in {}", shown(bytes));
+        let expected = there(bytes, token).and_then(|(oracle, token)| match oracle.float(&token) {
+            None => Err(nowhere(31)),
+            Some(float) => Ok(float.negative.map(u64::from)),
+        });
+        assert_eq!(ours::float_sign(bytes, token), expected, "float's sign of {token:?} in {}", shown(bytes));
+        self.signs += 2;
+        if let Some(own) = own {
+            let near = [u32::MAX - chance.below(4) as u32, u32::MAX - chance.below(12) as u32];
+            for place in [[1, 1], near] {
+                assert_eq!(ours::move_over(place, own), expected_move(place, own), "{place:?} over {}", shown(own));
+                self.moves += 1;
+            }
+        }
+    }
+
+    /// Compares a reader's two calls: the answer, every byte of the buffer, the bytes around it, and the part.
+    fn reading(&mut self, bytes: &[u8], reader: u64, token: Words, room: usize) {
+        let mut buffer = vec![CANARY; room + 2 * MARGIN];
+        let mut expected_buffer = buffer.clone();
+        let expected = expected_reading(bytes, reader, token, &mut expected_buffer[MARGIN..MARGIN + room]);
+        let reading = ours::read(bytes, reader, token, &mut buffer[MARGIN..MARGIN + room]);
+        let asked = || format!("reader {reader} of {token:?} in {}, room {room}", shown(bytes));
+        assert_eq!(reading, expected, "{}", asked());
+        assert!(buffer == expected_buffer, "bytes of the buffer: {}", asked());
+        self.readings += 1;
+        let answer = match reading {
+            Reading::Absent => [0; 5],
+            Reading::Text { start, len } => [1, start, len, 0, 0],
+            Reading::Buffer { start, len } => [3, start, len, 0, 0],
+            Reading::Refused(refused) => {
+                *self.refusals.entry(refused.number).or_default() += 1;
+                [2, refused.number, refused.place, refused.values[0], refused.values[1]]
+            }
+        };
+        self.part(bytes, &buffer[MARGIN..MARGIN + room], answer);
+    }
+
+    pub fn part(&mut self, text: &[u8], buffer: &[u8], answer: [u64; 5]) {
+        let expected = expected_part(text, buffer, answer);
+        assert_eq!(
+            ours::part(text, buffer, answer),
+            expected,
+            "part {answer:?} of {} and {}",
+            text.len(),
+            buffer.len()
+        );
+        self.parts += 1;
+    }
+
+    /// Compares the message of an error, with a buffer of some size.
+    pub fn message(&mut self, number: u64, values: [u64; 2], room: usize) {
+        let mut buffer = vec![CANARY; room + 2 * MARGIN];
+        let mut expected_buffer = buffer.clone();
+        let told = match (u8::try_from(number), values.map(u32::try_from)) {
+            (Ok(number), [Ok(first), Ok(second)]) => numbers::message(number, [first, second]),
+            _ => None,
+        };
+        let expected = match told {
+            None => Err(34),
+            Some(text) if text.len() > room => Err(32),
+            Some(text) => {
+                expected_buffer[MARGIN..][..text.len()].copy_from_slice(text.as_bytes());
+                Ok(text.len() as u64)
+            }
+        };
+        let message = ours::message(number, values, &mut buffer[MARGIN..MARGIN + room]);
+        assert_eq!(message, expected, "message of {number}, {values:?}, room {room}");
+        assert!(buffer == expected_buffer, "bytes of the message of {number}, {values:?}, room {room}");
+        self.messages += 1;
+    }
+
+    /// What nobody gave: a token, an answer and an error made up near to what is there.
+    pub fn made_up(&mut self, bytes: &[u8], chance: &mut Texts) {
+        let wide = |chance: &mut Texts, small: usize| match chance.below(8) {
+            0 => u64::MAX - chance.below(3) as u64,
+            1 => (1 << 32) + chance.below(small) as u64,
+            _ => chance.below(small) as u64,
+        };
+        let kind = [0, 256, 512, 768, 1024, 2048, 3072, 65536][chance.below(8)] + chance.below(17) as u64;
+        let token = [kind, wide(chance, bytes.len() + 2), wide(chance, bytes.len() + 2)];
+        let reader = wide(chance, 12);
+        self.reading(bytes, reader, token, chance.below(9));
+        let buffer = vec![CANARY; chance.below(9)];
+        let answer = [wide(chance, 5), wide(chance, 9), wide(chance, 9), wide(chance, 9), wide(chance, 9)];
+        self.part(bytes, &buffer, answer);
+        let value = |chance: &mut Texts| match chance.below(4) {
+            0 => 0xd7ff + wide(chance, 0x802),
+            1 => 0x10fffe + wide(chance, 4),
+            2 => 0x2028 + wide(chance, 0x46),
+            _ => wide(chance, 0x100),
+        };
+        let values = [value(chance), value(chance)];
+        self.message(wide(chance, 40), values, chance.below(65));
+    }
+}
