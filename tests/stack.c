@@ -1,0 +1,61 @@
+/* Every call on large texts, the first of them as large as can be and nested as deep, in a thread with 16 KiB of stack, the least that the system gives: it ends by a signal if one needs more. */
+#include "thallusweb.h"
+
+#include <pthread.h>
+#include <stdio.h>
+#include <stdlib.h>
+#include <string.h>
+
+static uint8_t *text, *buffer;
+static size_t most = THALLUSWEB_MAX_TEXT;
+
+static void repeat(const char *piece) {
+    size_t n = strlen(piece);
+    for (size_t i = 0; i < most; i++) text[i] = (uint8_t)piece[i % n];
+}
+
+static void ask(void) {
+    uint64_t out[7], part[3];
+    uint32_t place[2] = {1, 1};
+    thallusweb_utf8_check(text, most, out);
+    thallusweb_annotation(text, most, false, 0, out);
+    thallusweb_list(text, most, false, 0, SIZE_MAX, buffer, 6 * most, out);
+    thallusweb_parse(text, most, true, 0, out);
+    uint64_t token[3] = {out[1], out[2], out[3]};
+    for (uint64_t reader = 0; reader < 10; reader++) {
+        thallusweb_read(text, most, reader, token, buffer, most, out);
+        thallusweb_part(text, most, buffer, most, out, part);
+    }
+    thallusweb_integer_sign(text, most, token, out);
+    thallusweb_float_sign(text, most, token, out);
+    for (uint64_t number = 0; number < 40; number++) thallusweb_message(number, 0x202e, 0x10ffff, buffer, 64, out);
+    thallusweb_message(19, 0xffffffff, 0, buffer, 64, out);
+    thallusweb_move(place, text, most);
+}
+
+static void *run(void *unused) {
+    const char *pieces[] = {"(;", "\"", " ", ";;a", "0x1_", "1", "$\"\\u{41}", "\\", "\"\\ff", "(;;)", "@", "a \"\\00\" "};
+    for (size_t i = 0; i < sizeof pieces / sizeof *pieces; i++) {
+        repeat(pieces[i]);
+        ask();
+        text[most - 1] = '"';
+        ask();
+        text[0] = '"';
+        ask();
+        most = 1 << 20;
+    }
+    return unused;
+}
+
+int main(void) {
+    text = malloc(most);
+    buffer = malloc(6 * most);
+    pthread_attr_t small;
+    pthread_t thread;
+    if (text == NULL || buffer == NULL || pthread_attr_init(&small) != 0 || pthread_attr_setstacksize(&small, 16384) != 0
+        || pthread_create(&thread, &small, run, NULL) != 0 || pthread_join(thread, NULL) != 0) {
+        return 1;
+    }
+    puts("16 KiB of stack suffice for every call");
+    return 0;
+}
