@@ -40,10 +40,6 @@ unsafe extern "C" {
 /// A token as a call takes it: its kind, offset and length.
 pub type Words = [u64; 3];
 
-/// The readers in the order of their numbers.
-pub const READERS: [&str; 9] =
-    ["src", "string", "id", "annotation", "integer", "integral", "fraction", "exponent", "payload"];
-
 /// What a reader's first call answers.
 #[derive(Clone, Copy, Debug, PartialEq, Eq)]
 pub enum Reading {

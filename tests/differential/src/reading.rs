@@ -2,74 +2,12 @@
 //! nobody gave.
 
 use crate::compare::{self, CANARY, Counts, MARGIN, shown};
-use crate::ours::{self, READERS, Reading, Refused, Words};
+use crate::ours::{self, Reading, Refused, Words};
 use oracle::lexer::SignToken;
 use oracle::readers::Token;
 use oracle::texts::Texts;
+use oracle::values::{NO_READER, Value};
 use oracle::{Answer, Oracle, numbers};
-use std::borrow::Cow;
-
-/// What a reader leaves of a token, by the Rust.
-enum Value {
-    Absent,
-    Part {
-        start: usize,
-        len: usize,
-    },
-    Copy(Vec<u8>),
-    /// an error, and what was copied before it was found
-    Fault(Refused, Vec<u8>),
-    OtherKind,
-}
-
-/// A `Cow` of the text as a value.
-fn value(text: &str, cow: &Cow<[u8]>) -> Value {
-    match cow {
-        Cow::Borrowed(part) => Value::Part { start: part.as_ptr().addr() - text.as_ptr().addr(), len: part.len() },
-        Cow::Owned(bytes) => Value::Copy(bytes.clone()),
-    }
-}
-
-fn as_bytes<'a>(cow: &'a Cow<str>) -> Cow<'a, [u8]> {
-    match cow {
-        Cow::Borrowed(part) => Cow::Borrowed(part.as_bytes()),
-        Cow::Owned(text) => Cow::Owned(text.clone().into_bytes()),
-    }
-}
-
-/// A name: what stands behind the first byte, decoded if it is quoted.
-fn name(text: &str, token: &Token, name: Option<Result<Cow<str>, oracle::Fault>>) -> Value {
-    match name {
-        None => Value::OtherKind,
-        Some(Ok(name)) => value(text, &as_bytes(&name)),
-        Some(Err(fault)) => {
-            let quoted = &text[token.offset() + 1..][..token.len() as usize - 1];
-            let alone = Oracle::new(quoted, true);
-            let copied = match alone.parse(0).0 {
-                Answer::Token(token) if fault.number == 22 => alone.string(&token).map(Cow::into_owned),
-                _ => None,
-            };
-            Value::Fault(compare::passed_on(fault), copied.unwrap_or_default())
-        }
-    }
-}
-
-fn left(oracle: &Oracle, reader: &str, token: &Token) -> Value {
-    let text = oracle.text();
-    let spelling = |part: Option<Cow<str>>| part.map_or(Value::Absent, |part| value(text, &as_bytes(&part)));
-    match reader {
-        "src" => value(text, &Cow::Borrowed(oracle.src(token).as_bytes())),
-        "string" => oracle.string(token).map_or(Value::OtherKind, |bytes| value(text, &bytes)),
-        "id" => name(text, token, oracle.id(token)),
-        "annotation" => name(text, token, oracle.annotation_name(token)),
-        "integer" => oracle.integer(token).map_or(Value::OtherKind, |integer| spelling(Some(integer.digits))),
-        "integral" => oracle.float(token).map_or(Value::OtherKind, |float| spelling(float.integral)),
-        "fraction" => oracle.float(token).map_or(Value::OtherKind, |float| spelling(float.fraction)),
-        "exponent" => oracle.float(token).map_or(Value::OtherKind, |float| spelling(float.exponent)),
-        "payload" => oracle.float(token).map_or(Value::OtherKind, |float| spelling(float.payload)),
-        _ => Value::OtherKind,
-    }
-}
 
 fn nowhere(number: u64) -> Refused {
     Refused { number, values: [0, 0], place: 0 }
@@ -96,12 +34,12 @@ fn expected_reading(bytes: &[u8], reader: u64, token: Words, buffer: &mut [u8]) 
         Some(())
     };
     let short = Reading::Refused(nowhere(32));
-    match left(&oracle, READERS.get(reader as usize).unwrap_or(&""), &token) {
+    match Value::read(&oracle, usize::try_from(reader).unwrap_or(NO_READER), &token) {
         Value::OtherKind => Reading::Refused(nowhere(31)),
         Value::Absent => Reading::Absent,
         Value::Part { start, len } => Reading::Text { start: start as u64, len: len as u64 },
         Value::Copy(bytes) => copied(&bytes).map_or(short, |()| Reading::Buffer { start: 0, len: bytes.len() as u64 }),
-        Value::Fault(fault, bytes) => copied(&bytes).map_or(short, |()| Reading::Refused(fault)),
+        Value::Fault(fault, bytes) => copied(&bytes).map_or(short, |()| Reading::Refused(compare::passed_on(fault))),
     }
 }
 
@@ -129,7 +67,7 @@ impl Counts {
     pub fn readers(&mut self, bytes: &[u8], token: Words, chance: &mut Texts) {
         let [kind, offset, len] = token;
         let own = (offset as usize).checked_add(len as usize).and_then(|end| bytes.get(offset as usize..end));
-        for reader in 0..READERS.len() as u64 + 1 {
+        for reader in 0..=NO_READER as u64 {
             self.reading(bytes, reader, token, len.min(1000) as usize);
             self.reading(bytes, reader, token, chance.below(len.min(1000) as usize + 1));
             if let Some(own) = own {

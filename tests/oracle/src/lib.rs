@@ -14,6 +14,7 @@ pub mod listing;
 pub mod numbers;
 pub mod readers;
 pub mod texts;
+pub mod values;
 
 use lexer::{LexError, Lexer};
 use readers::Token;

@@ -3,8 +3,8 @@
 use oracle::listing::Stop;
 use oracle::readers::Token;
 use oracle::texts::Texts;
+use oracle::values::{NO_READER, Value};
 use oracle::{Answer, Fault, Oracle, numbers, utf8};
-use std::borrow::Cow;
 use std::collections::BTreeMap;
 
 const ROW: usize = 152;
@@ -13,8 +13,6 @@ const TEXT: usize = 40;
 const LENT: usize = 64;
 /// What stands in a lent list or buffer where nothing was written.
 const UNTOUCHED: u8 = 238;
-/// The number that no reader has; those below are readers.
-const NO_READER: usize = 9;
 
 /// What is recorded of an answer: seven numbers, a message, and the lent list or buffer afterwards.
 #[derive(Default)]
@@ -139,66 +137,6 @@ impl Question<'_> {
     fn row(&self, kind: u8, answer: &Recorded) -> Vec<u8> {
         let head = [kind, self.flag.into(), self.bytes.len() as u8, self.room as u8];
         row(head, [self.position, self.budget], answer, self.bytes)
-    }
-}
-
-/// What a reader leaves of a token.
-enum Value {
-    Absent,
-    Part {
-        start: usize,
-        len: usize,
-    },
-    Copy(Vec<u8>),
-    /// an error, and what was copied before it was found
-    Fault(Fault, Vec<u8>),
-    OtherKind,
-}
-
-impl Value {
-    fn bytes(text: &str, cow: Cow<[u8]>) -> Value {
-        match cow {
-            Cow::Borrowed(part) => Value::Part { start: part.as_ptr().addr() - text.as_ptr().addr(), len: part.len() },
-            Cow::Owned(bytes) => Value::Copy(bytes),
-        }
-    }
-
-    fn spelling(text: &str, cow: Cow<str>) -> Value {
-        match cow {
-            Cow::Borrowed(part) => Value::bytes(text, Cow::Borrowed(part.as_bytes())),
-            Cow::Owned(copy) => Value::Copy(copy.into_bytes()),
-        }
-    }
-
-    /// A name: what stands behind the first byte, decoded if it is quoted.
-    fn name(text: &str, token: &Token, name: Result<Cow<str>, Fault>) -> Value {
-        let fault = match name {
-            Ok(name) => return Value::spelling(text, name),
-            Err(fault) => fault,
-        };
-        let alone = Oracle::new(&text[token.offset() + 1..][..token.len() as usize - 1], true);
-        let decoded = match alone.parse(0).0 {
-            Answer::Token(quoted) if fault.number == 22 => alone.string(&quoted).map(Cow::into_owned),
-            _ => None,
-        };
-        Value::Fault(fault, decoded.unwrap_or_default())
-    }
-
-    fn read(oracle: &Oracle, reader: usize, token: &Token) -> Value {
-        let text = oracle.text();
-        let value = match reader {
-            0 => Some(Value::spelling(text, Cow::Borrowed(oracle.src(token)))),
-            1 => oracle.string(token).map(|bytes| Value::bytes(text, bytes)),
-            2 => oracle.id(token).map(|name| Value::name(text, token, name)),
-            3 => oracle.annotation_name(token).map(|name| Value::name(text, token, name)),
-            4 => oracle.integer(token).map(|integer| Value::spelling(text, integer.digits)),
-            5..NO_READER => oracle.float(token).map(|float| {
-                let part = [float.integral, float.fraction, float.exponent, float.payload].into_iter().nth(reader - 5);
-                part.flatten().map_or(Value::Absent, |part| Value::spelling(text, part))
-            }),
-            _ => None,
-        };
-        value.unwrap_or(Value::OtherKind)
     }
 }
 
