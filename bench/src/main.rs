@@ -9,6 +9,7 @@ mod lexer;
 use lexer::Lexer;
 use std::hint::black_box;
 use std::time::{Duration, Instant};
+use thallusweb::lexer::{Lexer as Ours, Listed, Stop, check_utf8};
 
 mod token {
     pub struct Span {
@@ -24,20 +25,6 @@ impl Error {
         black_box(span.offset);
         Error
     }
-}
-
-unsafe extern "C" {
-    fn thallusweb_utf8_check(text: *const u8, len: usize, out: *mut u64);
-    fn thallusweb_list(
-        text: *const u8,
-        len: usize,
-        allow_confusing: bool,
-        start: usize,
-        budget: usize,
-        list: *mut u8,
-        list_len: usize,
-        out: *mut u64,
-    );
 }
 
 /// A generator of numbers, the same in each run.
@@ -80,7 +67,16 @@ fn comments(chance: &mut Chance, text: &mut String) {
     let block = chance.below(2) == 0;
     text.push_str(if block { "(; " } else { ";; " });
     for _ in 0..chance.below(16) + 2 {
-        text.push_str(chance.pick(&["merge ", "the ", "upper ", "layer ", "over ", "files, ", "whiteout ", "and (so) on "]));
+        text.push_str(chance.pick(&[
+            "merge ",
+            "the ",
+            "upper ",
+            "layer ",
+            "over ",
+            "files, ",
+            "whiteout ",
+            "and (so) on ",
+        ]));
     }
     text.push_str(if block { ";)\n" } else { "\n" });
 }
@@ -90,7 +86,12 @@ fn numbers(chance: &mut Chance, text: &mut String) {
         0 => text.push_str(&format!("{}", chance.below(1000))),
         1 => text.push_str(&format!("-{}", chance.below(1 << 40))),
         2 => text.push_str(&format!("0x{:x}", chance.below(1 << 32))),
-        3 => text.push_str(&format!("{}.{}e-{}", chance.below(100), chance.below(10_000), chance.below(30))),
+        3 => text.push_str(&format!(
+            "{}.{}e-{}",
+            chance.below(100),
+            chance.below(10_000),
+            chance.below(30)
+        )),
         _ => text.push_str(&format!("{}_{:03}", chance.below(1000), chance.below(1000))),
     }
     text.push(' ');
@@ -109,7 +110,14 @@ fn ordinary(chance: &mut Chance, text: &mut String) {
 fn foreign(chance: &mut Chance, text: &mut String) {
     text.push_str(";; ");
     for _ in 0..chance.below(12) + 4 {
-        text.push_str(chance.pick(&["слой ", "層を重ねる ", "fusión ", "합치기 ", "Überlagerung ", "层 "]));
+        text.push_str(chance.pick(&[
+            "слой ",
+            "層を重ねる ",
+            "fusión ",
+            "합치기 ",
+            "Überlagerung ",
+            "层 ",
+        ]));
     }
     text.push_str("\n(import \"слой\" \"層\" (func $f))\n");
 }
@@ -131,24 +139,35 @@ fn best(rounds: u32, mut ours: impl FnMut(), mut theirs: impl FnMut()) -> (Durat
 fn report(what: &str, size: usize, (ours, theirs): (Duration, Duration)) {
     let speed = |time: Duration| size as f64 / time.as_secs_f64() / 1e6;
     let ratio = ours.as_secs_f64() / theirs.as_secs_f64();
-    println!("{what:34} {:>4.0} MiB  {ratio:>5.2}   {:>7.0} and {:>7.0} MB/s", size as f64 / 1048576.0, speed(ours), speed(theirs));
+    println!(
+        "{what:34} {:>4.0} MiB  {ratio:>5.2}   {:>7.0} and {:>7.0} MB/s",
+        size as f64 / 1048576.0,
+        speed(ours),
+        speed(theirs)
+    );
 }
 
 fn main() {
-    let rounds = std::env::args().nth(1).map_or(9, |word| word.parse().expect("a number of rounds"));
+    let rounds = std::env::args()
+        .nth(1)
+        .map_or(9, |word| word.parse().expect("a number of rounds"));
     println!("{:34} {:>8}  ratio   ours and the Rust's", "", "text");
     type Piece = fn(&mut Chance, &mut String);
-    let kinds: [(&str, Piece); 5] =
-        [("whitespace", whitespace), ("comments", comments), ("numbers", numbers), ("ordinary WAT", ordinary), ("much non-ASCII", foreign)];
+    let kinds: [(&str, Piece); 5] = [
+        ("whitespace", whitespace),
+        ("comments", comments),
+        ("numbers", numbers),
+        ("ordinary WAT", ordinary),
+        ("much non-ASCII", foreign),
+    ];
     for (name, piece) in kinds {
         let largest = text(16 << 20, piece);
-        let mut out = [0u64; 8];
         let check = best(
             rounds,
-            || unsafe { thallusweb_utf8_check(largest.as_ptr(), largest.len(), out.as_mut_ptr()) },
+            || _ = black_box(check_utf8(black_box(largest.as_bytes()))),
             || _ = black_box(std::str::from_utf8(black_box(largest.as_bytes()))),
         );
-        assert_eq!(out[0], 0);
+        assert_eq!(check_utf8(largest.as_bytes()), Ok(()));
         report(&format!("UTF-8 check, {name}"), largest.len(), check);
     }
     for (name, piece) in kinds {
@@ -156,12 +175,10 @@ fn main() {
             let text = text(size, piece);
             let mut list = vec![0u8; 6 * text.len()];
             let mut tokens: Vec<lexer::Token> = Vec::with_capacity(text.len());
-            let mut out = [0u64; 8];
+            let mut listed = None;
             let times = best(
                 rounds,
-                || unsafe {
-                    thallusweb_list(text.as_ptr(), text.len(), false, 0, usize::MAX, list.as_mut_ptr(), list.len(), out.as_mut_ptr())
-                },
+                || listed = Some(Ours::new(black_box(&text)).list(0, usize::MAX, &mut list)),
                 || {
                     tokens.clear();
                     let lexer = Lexer::new(black_box(&text));
@@ -171,7 +188,12 @@ fn main() {
                     }
                 },
             );
-            assert_eq!((out[0], out[5] as usize, out[6] as usize), (0, tokens.len(), text.len()), "{name}");
+            let whole = Listed {
+                stop: Stop::End,
+                count: tokens.len(),
+                position: text.len(),
+            };
+            assert_eq!(listed, Some(whole), "{name}");
             report(&format!("listing, {name}"), text.len(), times);
         }
     }

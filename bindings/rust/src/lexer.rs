@@ -240,6 +240,14 @@ impl TokenKind {
     }
 }
 
+/// Whether bytes are UTF-8, by the proved check: the counterpart of `std::str::from_utf8`.
+pub fn check_utf8(bytes: &[u8]) -> Result<(), Utf8Error> {
+    match ffi::utf8_check(bytes) {
+        [0, ..] => Ok(()),
+        [_, valid_up_to, error_len] => Err(Utf8Error::from_words([valid_up_to, error_len])),
+    }
+}
+
 /// What a call for one token answers.
 fn found([what, number, place, first, second]: [u64; 5]) -> Result<Option<Token>, Error> {
     match what {
@@ -253,6 +261,9 @@ impl<'a> Lexer<'a> {
     /// The longest text that is lexed, in bytes.
     pub const MAX_TEXT: usize = 16_777_216;
 
+    /// The bytes of a token's record in a list.
+    pub const RECORD: usize = 6;
+
     /// A lexer of a text, which refuses confusing characters.
     pub fn new(input: &str) -> Lexer<'_> {
         Lexer { input, allow_confusing_unicode: false }
@@ -263,10 +274,10 @@ impl<'a> Lexer<'a> {
         if bytes.len() > Self::MAX_TEXT {
             return Err(Error::new(Refusal::TooLong, Some(0)));
         }
-        let [_, valid_up_to, error_len] = ffi::utf8_check(bytes);
-        std::str::from_utf8(bytes).map(Lexer::new).map_err(|_| {
-            Error::new(Refusal::NotUtf8(Utf8Error::from_words([valid_up_to, error_len])), Some(valid_up_to as usize))
-        })
+        match (check_utf8(bytes), std::str::from_utf8(bytes)) {
+            (Err(error), _) => Err(Error::new(Refusal::NotUtf8(error), Some(error.valid_up_to))),
+            (Ok(()), text) => Ok(Lexer::new(text.unwrap_or_default())),
+        }
     }
 
     /// The text.
@@ -300,7 +311,30 @@ impl<'a> Lexer<'a> {
     /// The tokens from a position on. An error is an item, and the tokens behind it follow, as in wast, which also means that the first item
     /// after an open comment or an unexpected character is the same error again.
     pub fn iter(&self, position: usize) -> Iter<'a> {
-        Iter { lexer: *self, position, offset: position, records: Vec::new(), next: 0, stop: Stop::More, budget: 64 }
+        Iter { lexer: *self, position, offset: position, records: Vec::new(), next: 0, stop: Stop::Budget, budget: 64 }
+    }
+
+    /// The tokens from a start on, at most `budget` of them, as records of six bytes in a lent list ([`Lexer::RECORD`]): the length in four and the
+    /// kind's number in two, the least byte first. Bytes past the records stay. The text is checked once.
+    ///
+    /// ```
+    /// use thallusweb::lexer::{Lexer, Stop};
+    ///
+    /// let mut list = [0; 2 * Lexer::RECORD];
+    /// let listed = Lexer::new("(a)").list(0, usize::MAX, &mut list);
+    /// assert_eq!((listed.stop, listed.count, listed.position), (Stop::Full, 2, 2));
+    /// assert_eq!(list, [1, 0, 0, 0, 4, 0, 1, 0, 0, 0, 8, 0]);
+    /// ```
+    pub fn list(&self, start: usize, budget: usize, list: &mut [u8]) -> Listed {
+        let [why, number, place, first, second, count, position] =
+            ffi::list(self.input.as_bytes(), self.allow_confusing_unicode, start, budget, list);
+        let stop = match why {
+            0 => Stop::End,
+            1 => Stop::Budget,
+            2 => Stop::Error(Error::from_words([number, place, first, second])),
+            _ => Stop::Full,
+        };
+        Listed { stop, count: count as usize, position: position as usize }
     }
 
     /// The annotation at a position, if an `@` stands there and begins one.
@@ -319,6 +353,28 @@ impl<'a> Lexer<'a> {
     }
 }
 
+/// Why a listing stopped.
+#[derive(Clone, Debug, PartialEq, Eq)]
+pub enum Stop {
+    /// The text's end.
+    End,
+    /// As many tokens as were asked for.
+    Budget,
+    Error(Error),
+    /// No room for the next token.
+    Full,
+}
+
+/// What a listing reports.
+#[derive(Clone, Debug, PartialEq, Eq)]
+pub struct Listed {
+    pub stop: Stop,
+    /// How many tokens were handed out.
+    pub count: usize,
+    /// Where the first token not handed out starts, or where an error leaves the position.
+    pub position: usize,
+}
+
 /// Tokens one after the other: see [`Lexer::iter`]. The text is checked once for every few thousand of them.
 #[derive(Clone, Debug)]
 pub struct Iter<'a> {
@@ -333,40 +389,25 @@ pub struct Iter<'a> {
     budget: usize,
 }
 
-#[derive(Clone, Debug)]
-enum Stop {
-    More,
-    Error(Error),
-    End,
-}
-
-const RECORD: usize = 6;
-
 impl Iter<'_> {
     /// Lists some more tokens.
     fn fill(&mut self) {
-        self.records.resize(RECORD * self.budget, 0);
-        let text = self.lexer.input.as_bytes();
-        let [why, number, place, first, second, count, position] =
-            ffi::list(text, self.lexer.allow_confusing_unicode, self.position, self.budget, &mut self.records);
-        self.records.truncate(RECORD * count as usize);
+        self.records.resize(Lexer::RECORD * self.budget, 0);
+        let listed = self.lexer.list(self.position, self.budget, &mut self.records);
+        self.records.truncate(Lexer::RECORD * listed.count);
         self.next = 0;
         self.offset = self.position;
-        self.position = position as usize;
+        self.position = listed.position;
+        self.stop = listed.stop;
         self.budget = (2 * self.budget).min(1 << 14);
-        self.stop = match why {
-            0 => Stop::End,
-            2 => Stop::Error(Error::from_words([number, place, first, second])),
-            _ => Stop::More,
-        };
     }
 
     /// The next token of the listing.
     fn record(&mut self) -> Option<Token> {
-        let &[a, b, c, d, e, f] = self.records.get(self.next..)?.first_chunk::<RECORD>()?;
+        let &[a, b, c, d, e, f] = self.records.get(self.next..)?.first_chunk::<{ Lexer::RECORD }>()?;
         let len = u32::from_le_bytes([a, b, c, d]);
         let token = Token { kind: TokenKind::from_number(u16::from_le_bytes([e, f]).into()), offset: self.offset, len };
-        self.next += RECORD;
+        self.next += Lexer::RECORD;
         self.offset += len as usize;
         Some(token)
     }
@@ -380,8 +421,8 @@ impl Iterator for Iter<'_> {
             if let Some(token) = self.record() {
                 return Some(Ok(token));
             }
-            match std::mem::replace(&mut self.stop, Stop::More) {
-                Stop::More => self.fill(),
+            match std::mem::replace(&mut self.stop, Stop::Budget) {
+                Stop::Budget | Stop::Full => self.fill(),
                 Stop::Error(error) => return Some(Err(error)),
                 Stop::End => {
                     self.stop = Stop::End;
