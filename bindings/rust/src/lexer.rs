@@ -116,6 +116,12 @@ impl Utf8Error {
     }
 }
 
+impl From<std::str::Utf8Error> for Utf8Error {
+    fn from(error: std::str::Utf8Error) -> Utf8Error {
+        Utf8Error { valid_up_to: error.valid_up_to(), error_len: error.error_len().unwrap_or(0) as u8 }
+    }
+}
+
 impl fmt::Display for Utf8Error {
     fn fmt(&self, f: &mut fmt::Formatter<'_>) -> fmt::Result {
         match self.error_len {
@@ -274,10 +280,10 @@ impl<'a> Lexer<'a> {
         if bytes.len() > Self::MAX_TEXT {
             return Err(Error::new(Refusal::TooLong, Some(0)));
         }
-        match (check_utf8(bytes), std::str::from_utf8(bytes)) {
-            (Err(error), _) => Err(Error::new(Refusal::NotUtf8(error), Some(error.valid_up_to))),
-            (Ok(()), text) => Ok(Lexer::new(text.unwrap_or_default())),
-        }
+        let refused = |error: Utf8Error| Error::new(Refusal::NotUtf8(error), Some(error.valid_up_to));
+        check_utf8(bytes).map_err(refused)?;
+        // the two checks agree; if they did not, the bytes would be refused
+        std::str::from_utf8(bytes).map(Lexer::new).map_err(|error| refused(Utf8Error::from(error)))
     }
 
     /// The text.
