@@ -1,8 +1,8 @@
 /* Thallusweb: a lexer for the WebAssembly text format with one proved reading.
  *
  * Every call answers for every text, position, flag and size; none needs anything of its arguments but that the pointers are good
- * for the lengths given (a length of 0 still takes a pointer that is not null). Texts are bytes; `allow_confusing` lets nine
- * characters that turn the direction of text stand raw in strings and comments.
+ * for the lengths given (a length of 0 still takes a pointer that is not null). Texts are bytes; `allow_confusing` lets the nine
+ * characters of document 01 that can make a page show another text than is there stand raw in strings and comments.
  *
  * An answer goes into an array of 64-bit words, all of which are written. A refusal is its number, its place, and up to two values:
  *
@@ -40,13 +40,14 @@ extern "C" {
 #define THALLUSWEB_RECORD 6
 #define THALLUSWEB_MESSAGE 64
 
-/* Whether the text is UTF-8. out: 0, 0, 0; or 2, valid-up-to, error length. */
+/* Whether the text, of any length, is UTF-8. out: 0, 0, 0; or 2, valid-up-to, error length. */
 void thallusweb_utf8_check(const uint8_t *text, size_t len, uint64_t out[3]);
 
 /* One token at a position. out[0] is 0 for nothing (the end of the text), 1 for a token, 2 for a refusal.
  *   token:    out[1] its kind, out[2] its offset, out[3] its length, out[4] 0
  *   refusal:  out[1] its number, out[2] its place, out[3] and out[4] its values
- * out[5] is the position afterwards: past the token; after a refusal where lexing may go on. */
+ * out[5] is the position afterwards: past the token; after 12 to 21 where lexing may go on; after 1 to 4, 10 and 11 the position given, where
+ * the same call is refused again. */
 void thallusweb_parse(const uint8_t *text, size_t len, bool allow_confusing, size_t position, uint64_t out[6]);
 
 /* The annotation at a position: the same five words. Nothing where no @ stands, past the end too. */
@@ -61,23 +62,23 @@ void thallusweb_annotation(const uint8_t *text, size_t len, bool allow_confusing
 void thallusweb_list(const uint8_t *text, size_t len, bool allow_confusing, size_t start, size_t budget, uint8_t *list,
                      size_t list_len, uint64_t out[7]);
 
-/* Readers, by number. What each gives is in README.md. */
+/* Readers, by number. Digits come without underscores, without a + and without 0x; of a hexadecimal number they are its hexadecimal digits. */
 enum {
     THALLUSWEB_SRC,        /* the token's own bytes; takes every kind */
-    THALLUSWEB_STRING,     /* the bytes that a string stands for; kind 6 */
-    THALLUSWEB_ID,         /* the name behind a $; kind 7 */
-    THALLUSWEB_ANNOTATION, /* the name behind an @; kind 9 */
+    THALLUSWEB_STRING,     /* the bytes that a string stands for, its escapes decoded; kind 6 */
+    THALLUSWEB_ID,         /* the name behind a $, decoded if it is a string; kind 7 */
+    THALLUSWEB_ANNOTATION, /* the name behind an @, decoded if it is a string; kind 9 */
     THALLUSWEB_INTEGER,    /* an integer's digits, with its -; kind 11 */
-    THALLUSWEB_INTEGRAL,   /* a float's parts; kinds 12 to 15 */
-    THALLUSWEB_FRACTION,
-    THALLUSWEB_EXPONENT,
-    THALLUSWEB_PAYLOAD
+    THALLUSWEB_INTEGRAL,   /* the digits before a float's point, with its -; kinds 12 to 15, and so the next three */
+    THALLUSWEB_FRACTION,   /* those after its point, if there are any */
+    THALLUSWEB_EXPONENT,   /* those of its exponent, with its -, if it has one */
+    THALLUSWEB_PAYLOAD     /* those after nan:0x, of kind 14 */
 };
 
 /* A reader's first call. token: kind, offset and length, as thallusweb_parse leaves them in out[1], out[2] and out[3], so that `out + 1`
  * will do. The value's bytes are a part of the text, or a copy at the front of the buffer; a buffer as long as the token
  * always holds one. out[0] is
- *   0  the kind has no such part
+ *   0  the token has no such part
  *   1  a part of the text:    out[1] its start, out[2] its length
  *   2  a refusal:             out[1] its number (1 to 4, 22 to 24, 30 to 32), out[2] its place (0 for 30 to 32), out[3] and out[4] its values
  *   3  a part of the buffer:  out[1] its start, out[2] its length
@@ -94,12 +95,12 @@ void thallusweb_part(const uint8_t *text, size_t len, const uint8_t *buffer, siz
 /* An integer's sign. out[0] is 1, and out[1] 0 for none, 1 for + and 2 for -; or 2 and a refusal, as above. */
 void thallusweb_integer_sign(const uint8_t *text, size_t len, const uint64_t token[3], uint64_t out[5]);
 
-/* Whether an inf or nan is negative. out[0] is 1, and out[1] 0 or 1; 0 for any other float, whose sign is in its integral part; or 2 and a
- * refusal, as above. */
+/* Whether an inf or nan is negative. out[0] is 1, and out[1] 0 or 1; out[0] is 0 for any other float, whose sign is in its integral
+ * part; or 2 and a refusal, as above. */
 void thallusweb_float_sign(const uint8_t *text, size_t len, const uint64_t token[3], uint64_t out[5]);
 
-/* The message of an error, 10 to 24, with its values as a refusal has them (those that it does not carry are not looked at). out[0] is 1,
- * and out[1] the message's length, at the front of the buffer; or 2 and a refusal, 34 or 32. It is no C string: no 0 follows it. */
+/* The message of an error, 10 to 24, with its values as a refusal has them; each is under 2^32, also where the error does not carry it, and
+ * then does not matter otherwise. out[0] is 1, and out[1] the message's length, at the front of the buffer; or 2 and a refusal, 34 or 32. It is no C string: no 0 follows it. */
 void thallusweb_message(uint64_t number, uint64_t first, uint64_t second, uint8_t *buffer, size_t buffer_len, uint64_t out[5]);
 
 /* The place counter: line and column, each from 1, so that a new one is { 1, 1 }. It is moved over a token's bytes; columns count bytes. False

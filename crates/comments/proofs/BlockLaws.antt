@@ -13,6 +13,7 @@ use lib.Seq.{drop-cons}
 use borrow.Author.Tests.{ne-eqb, eqb-true, eqb-false}
 use Rattle.wat.specs.Bytes.{byte, Each}
 use Rattle.wat.specs.CommentModel.{fresh, further, opens, ends}
+use Rattle.wat.proofs.Blocks.{further-further}
 use Rattle.classes.specs.Scan.{Passed}
 use Rattle.classes.proofs.ScanLaws.{passed-between}
 use Rattle.comments.specs.Find.{among}
@@ -28,10 +29,6 @@ begins = among (byte "(") (byte ";")
 further-none : (o : Option ℕ) → further 0 o ≡ o
 further-none none = refl
 further-none (some n) = ap some (zero-add n)
-
-further-further : (n m : ℕ) (o : Option ℕ) → further n (further m o) ≡ further (n + m) o
-further-further n m none = refl
-further-further n m (some k) = ap some (sym (add-assoc n m k))
 
 end-further : (i n : ℕ) (o : Option ℕ) → endOf i (further n o) ≡ endOf (i + n) o
 end-further i n none = refl

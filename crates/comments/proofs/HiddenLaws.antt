@@ -8,23 +8,19 @@ use mathlib.Core.List.{List, [], _∷_, _++_}
 use native.Mathlib.Omega.{arith}
 use native.Mathlib.Nat.{add-assoc, zero-add, add-zero}
 use native.Mathlib.Numerals.{add-one}
-use lib.Dec.{leb, ltb, eqb}
+use lib.Dec.{leb, eqb}
 use lib.ListN.{length, getD, take, drop, length-append, length-drop, List·getD-append}
 use lib.Seq.{drop-cons, getD-drop, getD-append-add, take-at}
-use borrow.Author.Tests.{leb-true, eqb-true, eqb-false, ne-eqb, ltb-true, ltb-false, le-ltb, lt-ltb}
-use Rattle.wat.specs.declared.TokenKind.{TokenKind}
-use Rattle.wat.specs.declared.LexError.the-variants.{ConfusingUnicode}
-use Rattle.wat.specs.declared.Answer.the-variants as answer
+use borrow.Author.Tests.{leb-true, eqb-true, eqb-false, ne-eqb, le-ltb, lt-ltb}
 use Rattle.wat.specs.Bytes.{Each, none, next}
 use Rattle.wat.specs.Utf8.{Range, _‥_, table, Fits, Char, scalar, WellFormed, empty, more}
 use Rattle.wat.specs.Utf8Model.{pick}
 use Rattle.wat.specs.Chars.{confusing}
 use Rattle.wat.specs.StringModel.{encode, char}
-use Rattle.wat.specs.LexModel.{Hidden, clear, found, beyond, hiddenBy, hidden, commentBy}
+use Rattle.wat.specs.LexModel.{Hidden, clear, found, beyond, hiddenBy, hidden}
 use Rattle.wat.proofs.Utf8Laws.{pick-both, char-full, char-known, fits-length, never}
 use Rattle.wat.proofs.Scalars.{All, all-listed, char-right, below, peek-char, peek-nothing}
 use Rattle.wat.proofs.Elements.{has-every}
-use Rattle.wat.proofs.Hexnums.{differ}
 use Rattle.classes.specs.Scan.{Passed}
 use Rattle.classes.proofs.ScanLaws.{passed-between}
 use Rattle.comments.specs.Find.{among}
@@ -254,27 +250,3 @@ module _ (s : List ℕ) (from to : ℕ) where
         let e : getD (drop from s) n 0 ≡ 0xE2 = getD-drop from s n 0 ∙ ap (λ (m : ℕ). getD s m 0) q ∙ lead-is (getD s k 0) l in
         let d = whole n w (omega (arith, length-drop from s, p .on)) e in
         omega (arith, length-drop from s, p .on)
-
--- ---- for the lexer: the answer for a comment of the kind k
-
-module _ (k : TokenKind) (from to : ℕ) (l : from ≤ to) where
-  pub comment-clear : (h : Hidden) → hiddenIn from to h ≡ Clear → commentBy k (to - from) h ≡ answer.Token k (to - from)
-  comment-clear clear e = refl
-  comment-clear (found p c) e = go (ltb (from + p) to) refl
-    where
-      go : (b : Bool) → ltb (from + p) to ≡ b → commentBy k (to - from) (found p c) ≡ answer.Token k (to - from)
-      go true q = let z : Found (from + p) c ≡ Clear = rw (q, before) at e in differ (cc)
-      go false q = rw (le-ltb p (to - from) (omega (arith, ltb-false (from + p) to q)), commentBy)
-
-  pub comment-found : (p c : ℕ) (h : Hidden) → hiddenIn from to h ≡ Found p c → commentBy k (to - from) h ≡ answer.Fault (ConfusingUnicode c) (p - from) (to - from)
-  comment-found p c clear e = differ (cc)
-  comment-found p c (found n d) e = go (ltb (from + n) to) refl
-    where
-      go : (b : Bool) → ltb (from + n) to ≡ b → commentBy k (to - from) (found n d) ≡ answer.Fault (ConfusingUnicode c) (p - from) (to - from)
-      go true q =
-          let z : Found (from + n) d ≡ Found p c = rw (q, before) at e in
-          let a : from + n ≡ p = cc in
-          let b : d ≡ c = cc in
-          let i : n ≡ p - from = omega arith in
-          rw (lt-ltb n (to - from) (omega (arith, ltb-true (from + n) to q)), commentBy) (rw (b, i))
-      go false q = let z : Clear ≡ Found p c = rw (q, before) at e in differ (cc)

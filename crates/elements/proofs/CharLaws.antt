@@ -19,11 +19,11 @@ use Rattle.wat.proofs.Utf8Laws.{char-front}
 use Rattle.wat.proofs.Scalars.{below, ascii, alone-at, char-right, scalar-split}
 use Rattle.wat.proofs.Hexnums.{of-hex, hex-ascii}
 use Rattle.wat.proofs.Elements.{has-every}
-use Rattle.utf8.specs.Decoding.{Character, Decodes}
-use Rattle.utf8.specs.declared.Decoded.{Decoded}
-use Rattle.utf8.specs.declared.Decoded.the-variants as decoded
-use Rattle.utf8.proofs.DecodeLaws.{decoded-char}
-use Rattle.utf8.proofs.EncodeLaws.{long-1, long-2, long-3, long-4}
+use Rattle.chars.specs.Decoding.{Character, Decodes}
+use Rattle.chars.specs.declared.Decoded.{Decoded}
+use Rattle.chars.specs.declared.Decoded.the-variants as decoded
+use Rattle.chars.proofs.DecodeLaws.{decoded-char}
+use Rattle.buffers.proofs.EncodeLaws.{long-1, long-2, long-3, long-4}
 use Rattle.classes.specs.Ask.{digitOf}
 use Rattle.elements.specs.Elements.{letterOf}
 

@@ -8,7 +8,7 @@ use native.Mathlib.Omega.{arith}
 use lib.Dec.{eqb}
 use lib.ListN.{length, take, drop, length-drop, take-append-drop}
 use lib.Seq.{drop-drop}
-use borrow.Author.Tests.{le-ltb, eq-eqb, ne-eqb}
+use borrow.Author.Tests.{eq-eqb, ne-eqb}
 use Rattle.wat.specs.Bytes.{byte}
 use Rattle.wat.specs.declared.LexError.{LexError}
 use Rattle.wat.specs.declared.LexError.the-variants.{InvalidStringElement, InvalidStringEscape, InvalidHexDigit, Expected, UnexpectedEof, NumberTooBig, InvalidUnicodeValue, LoneUnderscore, ConfusingUnicode}
@@ -17,7 +17,7 @@ use Rattle.wat.specs.Utf8.{scalar}
 use Rattle.wat.specs.Chars.{control, isScalar}
 use Rattle.wat.specs.Strings.{escapes}
 use Rattle.wat.specs.StringModel.{nothing, peek, hexOf, Num, num, lone, big, digits, encode, letterOf, Read, element, quote, refused, closeBy, numberBy, firstBy, braceBy, secondBy, escapeBy, hides, readBy, read}
-use Rattle.utf8.specs.Decoding.{Character}
+use Rattle.chars.specs.Decoding.{Character}
 use Rattle.elements.specs.Elements.{Element, Refusal, Says}
 use Rattle.elements.specs.declared.Read as declared
 use Rattle.elements.specs.declared.Read.the-variants.{Byte, Char, Quote, Refused}
@@ -217,7 +217,7 @@ module _ (s : List ℕ) (i v n : ℕ) (ch : Character s i v n) where
               let q : hides σ (scalar c) ≡ false = rw (ch .value) at e in
               rw (ch .peeked, not (byte "\"") f, not (byte "\\") g, p, q, readBy, ch .long, encoded s i v n ch)
 
--- no ASCII character is hidden, and no other one is a control character
+-- no ASCII character is hidden
 pub ascii-shown : (σ : Settings) (v : ℕ) → v < 0x80 → hides σ v ≡ false
 unfolding hides
 ascii-shown σ v h = go (σ .confusing) refl
@@ -225,7 +225,3 @@ ascii-shown σ v h = go (σ .confusing) refl
     go : (b : Bool) → σ .confusing ≡ b → hides σ v ≡ false
     go true e = rw (e, hides)
     go false e = rw (e, hides) (confusing-not v (omega arith))
-
-pub high-raw : (v : ℕ) → 0x80 ≤ v → control v ≡ false
-unfolding control
-high-raw v h = rw (le-ltb v 0x20 (omega arith), ne-eqb v 0x7F (omega arith))

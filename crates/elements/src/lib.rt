@@ -8,9 +8,9 @@ ghost use lib.ListN.{length, getD, drop};
 ghost use Rattle.wat.specs.Chars.{isScalar};
 ghost use Rattle.wat.specs.Strings.{escapes};
 ghost use Rattle.wat.specs.StringModel as model;
-ghost use Rattle.utf8.specs.Decoding.{Decodes};
+ghost use Rattle.chars.specs.Decoding.{Decodes};
 ghost use Rattle.elements.specs.Elements.{numOf, consumed, Counted, letterOf, Says};
-use utf8::Decoded;
+use chars::Decoded;
 use wat::LexError;
 
 // What stands where an element or the closing quote is looked for: an element of so many bytes that stands for a byte or for a character;
@@ -77,7 +77,7 @@ fn wide_element(s: &[u8], at: usize, allow_confusing: bool) -> Read
     requires { ⌜ 0x80 ≤ getD (now s) at 0 ⌝ }
     ensures { λ r. ⌜ Says (drop at (now (s .entry))) (model.read (record { confusing = «allow_confusing» }) (drop at (now (s .entry)))) r ⌝ }
 {
-    let Decoded::Char { value, len } = utf8::decode(s, at) else {
+    let Decoded::Char { value, len } = chars::decode(s, at) else {
         return Read::Refused {
             error: LexError::UnexpectedEof,
             place: 0,
@@ -337,7 +337,7 @@ fn must_char(s: &[u8], at: usize) -> Decoded
             len: 1,
         };
     }
-    utf8::decode(s, at)
+    chars::decode(s, at)
 }
 
 fn wide(x: u8) -> u32

@@ -1,15 +1,12 @@
-// The forms of the Rust that hold and lend, which `thallusweb` passes on: `Lexer`, a struct of the text and the flag, with thin methods over
-// the calls on plain parameters; and the place counter, lent and changed by the call.
+// The Rust's `Lexer`, which `thallusweb` passes on: a struct of the text and the flag, with thin methods over the calls on plain parameters.
 ghost use mathlib.Core.Path.{_≡_};
 ghost use mathlib.Core.Bool.{false};
 ghost use denote.Ref.{at-last};
 ghost use Rattle.wat.specs.Calls.{Parses, Annotates};
 ghost use Rattle.wat.specs.Division.{Listing};
-ghost use Rattle.wat.specs.Places.{Moves};
-ghost use Rattle.held.specs.Flag.{flagged};
+ghost use Rattle.held.specs.Flag.{flagged, settings};
 use wat::Found;
 use wat::Listed;
-use wat::Place;
 use wat::Token;
 
 // A text of any bytes, which each call checks, and whether confusing characters are allowed in it.
@@ -45,7 +42,7 @@ impl<'a> Lexer<'a> {
 
     // One token at a position, which is lent and changed by the call.
     pub fn parse(&self, pos: &mut usize) -> Found
-        ensures { λ r. ⌜ Parses (record { confusing = now (self .entry) .flag }) (now (now (self .entry) .text)) (now (pos .entry))
+        ensures { λ r. ⌜ Parses (settings (now (self .entry))) (now (now (self .entry) .text)) (now (pos .entry))
             (record { found = r; position = now (pos .exit) }) ⌝ }
     {
         parse_from(self.text, self.flag, pos)
@@ -53,14 +50,14 @@ impl<'a> Lexer<'a> {
 
     // The annotation at a position, if one is there.
     pub fn annotation(&self, pos: usize) -> Found
-        ensures { λ r. ⌜ Annotates (record { confusing = now (self .entry) .flag }) (now (now (self .entry) .text)) pos r ⌝ }
+        ensures { λ r. ⌜ Annotates (settings (now (self .entry))) (now (now (self .entry) .text)) pos r ⌝ }
     {
         lexer::annotation(self.text, self.flag, pos)
     }
 
     // The Rust's `iter`, up to the first error, as records in a lent list: at most `budget` tokens from `start` on.
     pub fn list(&self, start: usize, budget: usize, list: &mut [u8]) -> Listed
-        ensures { λ r. ⌜ Listing (record { confusing = now (self .entry) .flag }) (now (now (self .entry) .text)) start budget (now (list .entry))
+        ensures { λ r. ⌜ Listing (settings (now (self .entry))) (now (now (self .entry) .text)) start budget (now (list .entry))
             r (now (list .exit)) ⌝ }
     {
         listing::list(self.text, self.flag, start, budget, list)
@@ -74,13 +71,4 @@ fn parse_from(text: &[u8], flag: bool, pos: &mut usize) -> Found
     let parsed = lexer::parse(text, flag, *pos);
     *pos = parsed.position;
     parsed.found
-}
-
-// The counter moves over the bytes of a token; or the answer is false, which is 35, and it stays.
-pub fn move_over(p: &mut Place, w: &[u8]) -> bool
-    ensures { λ r. ⌜ Moves (now (p .entry)) (now (w .entry)) (record { ok = r; place = now (p .exit) }) ⌝ }
-{
-    let moved = place::move_over(*p, w);
-    *p = moved.place;
-    moved.ok
 }

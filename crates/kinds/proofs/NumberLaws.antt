@@ -1,6 +1,6 @@
 -- No two kinds have one number: a kind is found again from its number, by the rest by 256 and the details in the quotient.
--- Assumes nothing.
-use Prim.Native.Nat.{ℕ, zero, suc, _/_, _%_, _<_}
+-- No number is 0, and all are below 4096. Assumes nothing.
+use Prim.Native.Nat.{ℕ, zero, suc, _/_, _%_, _≤_, _<_}
 use mathlib.Core.Path.{_≡_, refl, sym, ap, _∙_}
 use mathlib.Core.Bool.{Bool, true, false}
 use mathlib.Core.List.{List, [], _∷_}
@@ -15,8 +15,9 @@ use Rattle.wat.specs.declared.FloatKind.{FloatKind}
 use Rattle.wat.specs.declared.FloatKind.the-variants.{Inf, Nan, NanVal, Normal}
 use Rattle.wat.specs.declared.TokenKind.{TokenKind}
 use Rattle.wat.specs.declared.TokenKind.the-variants.{LineComment, BlockComment, Whitespace, LParen, RParen, String, Id, Keyword, Annotation, Reserved, Integer, Float}
-use Rattle.wat.specs.Cases.{kindNumber}
+use Rattle.wat.specs.Cases.{flag, signNumber, kindNumber}
 use Rattle.wat.proofs.Hexnums.{differ}
+use Rattle.wat.proofs.Utf8Laws.{never}
 use Rattle.kinds.specs.declared.Named.{Named}
 use Rattle.kinds.specs.declared.Named.the-variants.{Kind, NoKind}
 use Rattle.kinds.specs.Numbered.{Numbered, Same, same, other}
@@ -117,6 +118,37 @@ only-reserved n h k e = go (eqb (n % 256) 0) refl
     go true p = only n 0 (eqb-true (n % 256) 0 p) k e
     go false p = only n (n % 256) refl k e ∙ List·getD-eq-default (kinds n) Reserved (beyond 15 (n % 256) h (eqb-false (n % 256) 0 p))
 
+-- 0 is no kind's number
+pub kind-some : (k : TokenKind) → kindNumber k ≡ 0 → ⊥
+kind-some k e = let z : kindNumber k ≡ 10 = ap kindNumber (only 0 0 refl k e) in omega arith
+
+flag-most : (b : Bool) (n : ℕ) → flag b n ≤ n
+flag-most true n = omega arith
+flag-most false n = omega arith
+
+sign-most : (s : Sign) → signNumber s ≤ 512
+sign-most Unsigned = omega arith
+sign-most Plus = omega arith
+sign-most Minus = omega arith
+
+-- twelve bits hold a kind's number
+pub kind-small : (k : TokenKind) → kindNumber k < 4096
+kind-small LineComment = omega arith
+kind-small BlockComment = omega arith
+kind-small Whitespace = omega arith
+kind-small LParen = omega arith
+kind-small RParen = omega arith
+kind-small String = omega arith
+kind-small Id = omega arith
+kind-small Keyword = omega arith
+kind-small Annotation = omega arith
+kind-small Reserved = omega arith
+kind-small (Integer i) = omega (arith, sign-most (i .sign), flag-most (i .underscores) 1024, flag-most (i .hex) 2048)
+kind-small (Float (Inf n)) = omega (arith, flag-most n 512)
+kind-small (Float (Nan n)) = omega (arith, flag-most n 512)
+kind-small (Float (NanVal n u)) = omega (arith, flag-most n 512, flag-most u 1024)
+kind-small (Float (Normal u h)) = omega (arith, flag-most u 1024, flag-most h 2048)
+
 -- kinds are the same where their numbers are
 pub same-by : (a b : TokenKind) (x y : ℕ) → x ≡ kindNumber a → y ≡ kindNumber b → Same a b (eqb x y)
 same-by a b x y p q = go (eqb x y) refl
@@ -133,3 +165,12 @@ named-kind (Numbered.nameless n) q = differ (cc)
 pub no-kind : {n : ℕ} {m : Named} → Numbered n m → m ≡ NoKind → (k : TokenKind) → kindNumber k ≡ n → ⊥
 no-kind (Numbered.named e) q = differ (cc)
 no-kind (Numbered.nameless n) q = n
+
+-- and one of `same_kind` of the kinds
+pub same-kind : {j k : TokenKind} {b : Bool} → Same j k b → b ≡ true → j ≡ k
+same-kind (Same.same e) q = e
+same-kind (Same.other n) q = absurd (never q refl)
+
+pub other-kind : {j k : TokenKind} {b : Bool} → Same j k b → b ≡ false → j ≡ k → ⊥
+other-kind (Same.same e) q = absurd (never refl q)
+other-kind (Same.other n) q = n

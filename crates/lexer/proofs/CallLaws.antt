@@ -1,7 +1,7 @@
 -- From the code's steps and errors to the answers of the calls. Assumes nothing.
 use Prim.Native.Nat.{ℕ, zero, suc, _+_, _-_, _≤_, _<_}
 use mathlib.Core.Path.{_≡_, refl, sym, ap, _∙_}
-use mathlib.Core.Bool.{Bool, true, false}
+use mathlib.Core.Bool.{true, false}
 use mathlib.Core.List.{List, [], _∷_, _++_}
 use native.Mathlib.Omega.{arith}
 use lib.ListN.{length, take, drop, length-drop, take-append-drop, drop-of-length-le}
@@ -18,17 +18,17 @@ use Rattle.wat.specs.Lexing.{Lexed}
 use Rattle.wat.specs.LexModel.{next, lex}
 use Rattle.wat.specs.Calls.{Text, Stands, at, Sign-at, Parses, Annotates}
 use Rattle.wat.proofs.Hexnums.{differ}
-use Rattle.wat.proofs.Shapes.{both}
+use Rattle.wat.proofs.Utf8Laws.{never}
 use Rattle.wat.proofs.Boundaries.{cut}
-use Rattle.wat.proofs.Total.{lexed}
+use Rattle.laws.proofs.Total.{lexed}
 use Rattle.kinds.specs.declared.Named.{Named}
 use Rattle.kinds.specs.declared.Named.the-variants.{Kind, NoKind}
-use Rattle.kinds.specs.Numbered.{Numbered, Same}
-use Rattle.kinds.proofs.NumberLaws.{injective, named-kind, no-kind}
+use Rattle.kinds.specs.Numbered.{Numbered}
+use Rattle.kinds.proofs.NumberLaws.{kind-some, injective, named-kind, no-kind}
 use Rattle.steps.specs.declared.Step.{Step}
 use Rattle.steps.specs.declared.Fault.{Fault}
 use Rattle.steps.specs.Steps.{Stepped, Faults}
-use Rattle.steps.proofs.StepLaws.{kind-some, token-of, fault-of}
+use Rattle.steps.proofs.StepLaws.{token-of, fault-of}
 
 -- ---- one token
 
@@ -72,23 +72,15 @@ parsed σ text pos s e = rw e (Parses.lexes s (lexed σ (s .between)))
 
 -- ---- annotations
 
-pub same-kind : {j k : TokenKind} {b : Bool} → Same j k b → b ≡ true → j ≡ k
-same-kind (Same.same e) q = e
-same-kind (Same.other n) q = absurd (both q refl)
-
-pub other-kind : {j k : TokenKind} {b : Bool} → Same j k b → b ≡ false → j ≡ k → ⊥
-other-kind (Same.same e) q = absurd (both refl q)
-other-kind (Same.other n) q = n
-
 module _ (text : List ℕ) (pos : ℕ) where
   pub sign-none : next (byte "@") (drop pos text) ≡ false → Sign-at text pos → ⊥
-  sign-none n g = both (ap (next (byte "@")) (g .1)) n
+  sign-none n g = never (ap (next (byte "@")) (g .1)) n
 
   pub sign-some : next (byte "@") (drop pos text) ≡ true → Sign-at text pos
   sign-some n = go (drop pos text) refl n
     where
       go : (t : List ℕ) → drop pos text ≡ t → next (byte "@") t ≡ true → Sign-at text pos
-      go [] e n = absurd (both n refl)
+      go [] e n = absurd (never n refl)
       go (x ∷ t) e n = (t, e ∙ ap (λ (y : ℕ). y ∷ t) (eqb-true x (byte "@") n))
 
   -- a position before an ASCII byte stands between two characters

@@ -1,5 +1,5 @@
-// The calls for one token, `parse` and `annotation`: the Rust's `Lexer`, with the text, its flag and the position as plain parameters, the
-// checks that come before lexing, and the errors.
+// The calls for one token, `parse` and `annotation`: the Rust's `Lexer`, with the text, its flag and the position as plain parameters, and
+// the errors.
 
 ghost use mathlib.Core.Path.{_≡_};
 ghost use Prim.Native.Nat.{_-_, _≤_, _<_};
@@ -11,14 +11,13 @@ ghost use Rattle.wat.specs.LexModel as model;
 ghost use Rattle.wat.specs.Calls.{Text, Stands, at as answer-at, Parses, Annotates};
 ghost use Rattle.classes.specs.Table.{Classes};
 ghost use Rattle.steps.specs.Steps.{Faults};
-ghost use Rattle.lexer.specs.Checks.{Sound, Meets};
+use chars::Decoded;
 use classes::Family;
 use comments::Confusing;
 use kinds::Named;
+use standing::Met;
 use steps::Fault;
 use steps::Walk;
-use utf8::Decoded;
-use wat::Checked;
 use wat::Found;
 use wat::LexError;
 use wat::Parsed;
@@ -26,17 +25,11 @@ use wat::Refusal;
 use wat::Token;
 use wat::TokenKind;
 
-// What a text and a position are refused by, 1 to 4.
-pub enum Met {
-    Stands,
-    Turned { refusal: Refusal, place: usize },
-}
-
 // One token at a position.
 pub fn parse(text: &[u8], flag: bool, pos: usize) -> Parsed
     ensures { λ r. ⌜ Parses (record { confusing = «flag» }) (now (text .entry)) pos r ⌝ }
 {
-    match check(text, pos) {
+    match standing::check(text, pos) {
         Met::Turned { refusal, place } => Parsed {
             found: Found::Refused { refusal, place },
             position: pos,
@@ -80,55 +73,6 @@ fn parse_at(text: &[u8], flag: bool, pos: usize) -> Parsed
                 position: fault.after,
             }
         }
-    }
-}
-
-// 1 to 4: as `check_text`, and then the position is past the end, or inside a character.
-pub fn check(text: &[u8], pos: usize) -> Met
-    ensures { λ r. ⌜ Meets (now (text .entry)) pos r ⌝ }
-{
-    match check_text(text, pos) {
-        Met::Turned { refusal, place } => Met::Turned { refusal, place },
-        Met::Stands => {
-            if text.len() < pos {
-                return Met::Turned {
-                    refusal: Refusal::PastEnd,
-                    place: pos,
-                };
-            }
-            if utf8::is_char_boundary(text, pos) {
-                return Met::Stands;
-            }
-            Met::Turned {
-                refusal: Refusal::InsideCharacter,
-                place: pos,
-            }
-        }
-    }
-}
-
-// 1 and 2: the text is too long, or no UTF-8.
-fn check_text(text: &[u8], pos: usize) -> Met
-    ensures { λ r. ⌜ Sound (now (text .entry)) pos r ⌝ }
-{
-    if Token::MAX_TEXT < text.len() {
-        return Met::Turned {
-            refusal: Refusal::TooLong,
-            place: pos,
-        };
-    }
-    match utf8::check(text) {
-        Checked::Ok => Met::Stands,
-        Checked::Bad {
-            valid_up_to,
-            error_len,
-        } => Met::Turned {
-            refusal: Refusal::NotUtf8 {
-                valid_up_to,
-                error_len,
-            },
-            place: valid_up_to,
-        },
     }
 }
 
@@ -206,7 +150,7 @@ fn run_fault(s: &[u8], at: usize, flag: bool, t: &[u8; 256]) -> Fault
 fn unexpected(s: &[u8], at: usize) -> Fault
     ensures { λ r. ⌜ Faults at (model.otherBy (peek (drop at (now (s .entry))))) r ⌝ }
 {
-    match utf8::decode(s, at) {
+    match chars::decode(s, at) {
         Decoded::Char { value, len: _ } => Fault {
             error: LexError::Unexpected(value),
             place: at,
@@ -229,7 +173,7 @@ fn no_error(at: usize) -> Fault {
 pub fn annotation(text: &[u8], flag: bool, pos: usize) -> Found
     ensures { λ r. ⌜ Annotates (record { confusing = «flag» }) (now (text .entry)) pos r ⌝ }
 {
-    match check_text(text, pos) {
+    match standing::check_text(text, pos) {
         Met::Turned { refusal, place } => Found::Refused { refusal, place },
         Met::Stands => annotation_at(text, flag, pos),
     }

@@ -7,9 +7,7 @@ use native.Mathlib.Nat.{sub-zero}
 use lib.ListN.{length, take, drop, length-drop, take-append-drop}
 use lib.Seq.{drop-cons, drop-drop, drop-length}
 use borrow.Author.Tests.{lt-ltb, le-ltb}
-use Rattle.wat.specs.declared.{TokenKind.TokenKind, LexError.LexError, Refusal.the-variants.Lexical, Answer.Answer, Stop.Stop, Listed.Listed}
-use Rattle.wat.specs.declared.TokenKind.the-variants as kind
-use Rattle.wat.specs.declared.FloatKind.the-variants.{Inf, Nan, NanVal, Normal}
+use Rattle.wat.specs.declared.{TokenKind.TokenKind, LexError.LexError, Refusal.the-variants.Lexical, Stop.Stop, Listed.Listed}
 use Rattle.wat.specs.declared.Answer.the-variants as answer
 use Rattle.wat.specs.declared.Stop.the-variants as stop
 use Rattle.wat.specs.Settings.{Settings}
@@ -20,68 +18,16 @@ use Rattle.wat.specs.LexModel.{lex}
 use Rattle.wat.specs.Calls.{Stands}
 use Rattle.wat.specs.Division.{little, records, Listing}
 use Rattle.wat.specs.ListModel.{Out, halt, handed, after, listing}
-use Rattle.wat.proofs.Total.{lexed}
-use Rattle.wat.proofs.Divisions.{token-size, listed}
+use Rattle.laws.proofs.Total.{lexed}
+use Rattle.laws.proofs.Divisions.{token-size, listed}
 use Rattle.wat.proofs.Boundaries.{token-formed}
-use Rattle.utf8.specs.Writing.{Put}
-use Rattle.utf8.proofs.PutLaws.{put-front, put-back, put-length}
+use Rattle.buffers.specs.Writing.{Put}
+use Rattle.buffers.proofs.PutLaws.{put-front, put-back, put-length}
 use Rattle.steps.specs.declared.Step.{Step}
 use Rattle.steps.specs.declared.Fault.{Fault}
-use Rattle.steps.specs.Steps.{stepOf, Stepped, faultAt, Faults}
+use Rattle.steps.specs.Steps.{Stepped, faultAt, Faults}
+use Rattle.steps.proofs.StepLaws.{token-of, fault-of}
 use Rattle.listing.specs.Report.{Reports}
-
--- ---- what a step says
-
-kind-some : (k : TokenKind) → kindNumber k ≡ 0 → ⊥
-kind-some kind.LineComment e = omega arith
-kind-some kind.BlockComment e = omega arith
-kind-some kind.Whitespace e = omega arith
-kind-some kind.LParen e = omega arith
-kind-some kind.RParen e = omega arith
-kind-some kind.String e = omega arith
-kind-some kind.Id e = omega arith
-kind-some kind.Keyword e = omega arith
-kind-some kind.Annotation e = omega arith
-kind-some kind.Reserved e = omega arith
-kind-some (kind.Integer i) e = omega arith
-kind-some (kind.Float (Inf n)) e = omega arith
-kind-some (kind.Float (Nan n)) e = omega arith
-kind-some (kind.Float (NanVal n u)) e = omega arith
-kind-some (kind.Float (Normal u h)) e = omega arith
-
-module _ {σ : Settings} {text : List ℕ} {at : ℕ} {r : Step} (s : Stepped σ text at r) where
-  pub record Token : Type 0 where
-    pub kind : TokenKind
-    pub len : ℕ
-    pub is : lex σ (drop at text) ≡ answer.Token kind len
-    pub number : r .kind ≡ kindNumber kind
-    pub end : r .end ≡ at + len
-
-  pub a-token : (r .kind ≡ 0 → ⊥) → Token
-  a-token n = go (lex σ (drop at text)) refl
-    where
-      go : (a : Answer) → lex σ (drop at text) ≡ a → Token
-      go answer.End e = let q : r ≡ stepOf at answer.End = s .same ∙ ap (stepOf at) e in absurd (n (ap (λ (x : Step). x .kind) q))
-      go (answer.Fault f p m) e = let q : r ≡ stepOf at (answer.Fault f p m) = s .same ∙ ap (stepOf at) e in absurd (n (ap (λ (x : Step). x .kind) q))
-      go (answer.Token k m) e =
-          let q : r ≡ stepOf at (answer.Token k m) = s .same ∙ ap (stepOf at) e in
-          record { kind = k; len = m; is = e; number = ap (λ (x : Step). x .kind) q; end = ap (λ (x : Step). x .end) q }
-
-  pub record Error : Type 0 where
-    pub error : LexError
-    pub place : ℕ
-    pub past : ℕ
-    pub is : lex σ (drop at text) ≡ answer.Fault error place past
-
-  pub an-error : r .kind ≡ 0 → at < length text → WellFormed (drop at text) → Error
-  an-error z h w = go (lex σ (drop at text)) (lexed σ w) refl
-    where
-      go : (a : Answer) → Lexed σ (drop at text) a → lex σ (drop at text) ≡ a → Error
-      go a (Lexed.end q) e = absurd (omega (arith, ap length q, length-drop at text))
-      go a (Lexed.token {k = k} {n = m} l f) e =
-          let q : r ≡ stepOf at (answer.Token k m) = s .same ∙ ap (stepOf at) e in
-          absurd (kind-some k (sym (ap (λ (x : Step). x .kind) q) ∙ z))
-      go a (Lexed.fault {e = f} {p = p} {n = m} g) e = record { error = f; place = p; past = m; is = e }
 
 -- the same record at the same place
 same-record : (d e : List ℕ) {to at len m k j : ℕ} → to ≡ at → len ≡ m → k ≡ j → Put d e to (little 4 len ++ little 2 k) → Put d e at (little 4 m ++ little 2 j)
@@ -206,20 +152,20 @@ module _ {σ : Settings} {text : List ℕ} {start budget : ℕ} {old out : List 
   pub goes-refused : {r : Step} {f : Fault} → Stepped σ text at r → at < length text → (n ≡ budget → ⊥) → r .kind ≡ 0 → Faults at (lex σ (drop at text)) f
       → Done (stop.Refused (Lexical (f .error)) (f .place)) (f .after)
   goes-refused {r} {f} s h q z fs =
-      let e = an-error s z h (g .formed) in
-      let i : f ≡ faultAt at (e .error) (e .place) (e .past) = fs .is (e .error) (e .place) (e .past) (e .is) in
-      subst (λ (x : Fault). Done (stop.Refused (Lexical (x .error)) (x .place)) (x .after)) (sym i) (goes-error (e .error) (e .place) (e .past) (e .is) q)
+      let e = fault-of s h (g .formed) z in
+      let i : f ≡ faultAt at (e .0) (e .1) (e .2) = fs .is (e .0) (e .1) (e .2) (e .3) in
+      subst (λ (x : Fault). Done (stop.Refused (Lexical (x .error)) (x .place)) (x .after)) (sym i) (goes-error (e .0) (e .1) (e .2) (e .3) q)
 
   pub goes-no-room : {r : Step} {used : ℕ} → Stepped σ text at r → (n ≡ budget → ⊥) → (r .kind ≡ 0 → ⊥) → used ≡ 6 * n → length out - used < 6 → Done stop.Full at
-  goes-no-room {r} s q z u h = let t = a-token s z in goes-full (t .kind) (t .len) (t .is) q (rw u at h)
+  goes-no-room {r} s q z u h = let t = token-of s z in goes-full (t .0) (t .1) (t .2) q (rw u at h)
 
   pub goes-stepped : {r : Step} {used : ℕ} (new : List ℕ) → Stepped σ text at r → (n ≡ budget → ⊥) → (r .kind ≡ 0 → ⊥) → used ≡ 6 * n → 6 ≤ length out - used
       → Put out new used (little 4 (r .end - at) ++ little 2 (r .kind)) → Goes σ text start budget old new (r .end) (n + 1)
   goes-stepped {r} {used} new s q z u h p =
-      let t = a-token s z in
-      let m : r .end - at ≡ t .len = omega (arith, t .end) in
-      let put = same-record out new u m (t .number) p in
-      rw (t .end) (goes-more new (t .kind) (t .len) (t .is) q (rw u at h) put)
+      let t = token-of s z in
+      let m : r .end - at ≡ t .1 = omega (arith, t .4) in
+      let put = same-record out new u m (t .3) p in
+      rw (t .4) (goes-more new (t .0) (t .1) (t .2) q (rw u at h) put)
 
 -- ---- the promise
 

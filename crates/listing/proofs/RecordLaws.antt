@@ -4,8 +4,8 @@ use mathlib.Core.Path.{_≡_}
 use mathlib.Core.List.{List, [], _∷_}
 use native.Mathlib.Omega.{arith}
 use lib.ListN.{length, set}
-use Rattle.utf8.specs.Writing.{Put}
-use Rattle.utf8.proofs.PutLaws.{put-stores}
+use Rattle.buffers.specs.Writing.{Put}
+use Rattle.buffers.proofs.PutLaws.{put-stores}
 
 pub six-stores : (d : List ℕ) (to a b c e f g : ℕ) → to + 6 ≤ length d
     → Put d (set (set (set (set (set (set d to a) (to + 1) b) (to + 2) c) (to + 3) e) (to + 4) f) (to + 5) g) to (a ∷ b ∷ c ∷ e ∷ f ∷ g ∷ [])

@@ -5,9 +5,9 @@ ghost use lib.ListN.{length, drop};
 ghost use Rattle.wat.specs.Division.{little, Listing};
 ghost use Rattle.wat.specs.Calls.{Stands};
 ghost use Rattle.wat.specs.ListModel.{listing};
-ghost use Rattle.utf8.specs.Writing.{Put};
+ghost use Rattle.buffers.specs.Writing.{Put};
 ghost use Rattle.listing.specs.Report.{Reports};
-use lexer::Met;
+use standing::Met;
 use wat::Listed;
 use wat::Refusal;
 use wat::Stop;
@@ -79,7 +79,7 @@ fn list_from(text: &[u8], flag: bool, start: usize, budget: usize, list: &mut [u
 pub fn list(text: &[u8], flag: bool, start: usize, budget: usize, list: &mut [u8]) -> Listed
     ensures { λ r. ⌜ Listing (record { confusing = «flag» }) (now (text .entry)) start budget (now (list .entry)) r (now (list .exit)) ⌝ }
 {
-    match lexer::check(text, start) {
+    match standing::check(text, start) {
         Met::Turned { refusal, place } => Listed {
             stop: Stop::Refused { refusal, place },
             count: 0,

@@ -10,12 +10,13 @@ use Rattle.wat.specs.declared.LexError.{LexError}
 use Rattle.wat.specs.declared.LexError.the-variants.{DanglingBlockComment, Unexpected, InvalidStringElement, InvalidStringEscape, InvalidHexDigit, Expected, UnexpectedEof, NumberTooBig, InvalidUnicodeValue, LoneUnderscore, ConfusingUnicode, InvalidUtf8Id, EmptyId, EmptyAnnotation}
 use Rattle.wat.specs.{Bytes.bytes, Bytes.between, Bytes.has, Chars.isScalar, Chars.confusing}
 use Rattle.wat.specs.Messages.{named, Shown, Displays}
-use Rattle.wat.proofs.Shapes.{both}
+use Rattle.wat.proofs.Utf8Laws.{never}
 use Rattle.wat.proofs.Scalars.{scalar-low, scalar-split}
 use Rattle.wat.proofs.Elements.{has-every}
-use Rattle.messages.specs.MessageModel.{hexBy, hex, shown, tellable}
-use Rattle.messages.proofs.HexLaws.{hexed, hexed-fits}
-use Rattle.messages.proofs.CharLaws.{shown-right, shown-scalar, shown-is, shown-fits}
+use Rattle.spelling.specs.Spelled.{hexBy, hex, shown, lead}
+use Rattle.spelling.proofs.HexLaws.{hexed, hexed-fits}
+use Rattle.spelling.proofs.CharLaws.{shown-right, shown-scalar, shown-is, shown-fits}
+use Rattle.messages.specs.MessageModel.{rest, message, tellable}
 
 -- ---- which errors have a message
 
@@ -25,38 +26,33 @@ and-left false b e = e
 
 and-right : (a b : Bool) → a && b ≡ true → b ≡ true
 and-right true b e = e
-and-right false b e = absurd (both e refl)
+and-right false b e = absurd (never e refl)
 
 confusing-bounds : (c : ℕ) → confusing c ≡ true → (0x202A ≤ c) × (c ≤ 0x206C)
 unfolding confusing
 confusing-bounds c e = has-every (λ y. (0x202A ≤ y) × (y ≤ 0x206C)) _ c (omega arith) e
 
-pub confusing-scalar : (c : ℕ) → confusing c ≡ true → isScalar c ≡ true
+confusing-scalar : (c : ℕ) → confusing c ≡ true → isScalar c ≡ true
 confusing-scalar c e = scalar-low c (omega (arith, confusing-bounds c e))
 
-pub displays-expected :
-    {w c : ℕ} → tellable (Expected w c) ≡ true → Displays (Expected w c) (bytes "expected '" ++ (shown w ++ (bytes "' but found '" ++ (shown c ++ bytes "'"))))
-unfolding tellable
-displays-expected {w} {c} t =
-    Displays.expected (shown-right w (and-left (isScalar w) (isScalar c) t)) (shown-right c (and-right (isScalar w) (isScalar c) t))
-
 -- the message of an error that has one
-pub message-of : (e : LexError) → tellable e ≡ true → (m : List ℕ) × Displays e m
-unfolding tellable
-message-of DanglingBlockComment t = (_, Displays.dangling)
-message-of (Unexpected c) t = (_, Displays.unexpected (shown-right c t))
-message-of (InvalidStringElement c) t = (_, Displays.element (shown-right c t))
-message-of (InvalidStringEscape c) t = (_, Displays.escape (shown-right c t))
-message-of (InvalidHexDigit c) t = (_, Displays.digit (shown-right c t))
-message-of (Expected w c) t = (_, displays-expected t)
-message-of UnexpectedEof t = (_, Displays.end)
-message-of NumberTooBig t = (_, Displays.big)
-message-of (InvalidUnicodeValue n) t = (_, Displays.value (hexed n))
-message-of LoneUnderscore t = (_, Displays.underscore)
-message-of (ConfusingUnicode c) t = (_, Displays.hidden t (shown-right c (confusing-scalar c t)))
-message-of (InvalidUtf8Id v e) t = (_, Displays.id)
-message-of EmptyId t = (_, Displays.empty-id)
-message-of EmptyAnnotation t = (_, Displays.empty-annotation)
+pub displays : (e : LexError) → tellable e ≡ true → Displays e (message e)
+unfolding tellable message lead rest
+displays DanglingBlockComment t = Displays.dangling
+displays (Unexpected c) t = Displays.unexpected (shown-right c t)
+displays (InvalidStringElement c) t = Displays.element (shown-right c t)
+displays (InvalidStringEscape c) t = Displays.escape (shown-right c t)
+displays (InvalidHexDigit c) t = Displays.digit (shown-right c t)
+displays (Expected w c) t =
+    Displays.expected (shown-right w (and-left (isScalar w) (isScalar c) t)) (shown-right c (and-right (isScalar w) (isScalar c) t))
+displays UnexpectedEof t = Displays.end
+displays NumberTooBig t = Displays.big
+displays (InvalidUnicodeValue n) t = Displays.value (hexed n)
+displays LoneUnderscore t = Displays.underscore
+displays (ConfusingUnicode c) t = Displays.hidden t (shown-right c (confusing-scalar c t))
+displays (InvalidUtf8Id v e) t = Displays.id
+displays EmptyId t = Displays.empty-id
+displays EmptyAnnotation t = Displays.empty-annotation
 
 -- and no other has one
 pub has-message : {e : LexError} {m : List ℕ} → Displays e m → tellable e ≡ true

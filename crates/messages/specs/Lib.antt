@@ -1,2 +1,2 @@
 pub mod MessageModel
-pub mod Writing
+pub mod Formatting

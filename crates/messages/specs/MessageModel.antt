@@ -1,35 +1,32 @@
--- Parts of messages, and which errors have one, by functions that compute. `proofs/` shows that they say what `Messages` of wat asks.
-use Prim.Native.Nat.{ℕ, zero, suc, _/_, _%_}
-use mathlib.Core.Bool.{Bool, true, false, _&&_}
-use mathlib.Core.List.{List, [], _∷_, _++_}
-use mathlib.Core.Option.{Option, none, some}
-use lib.Dec.{ltb}
+-- Messages, and which errors have one, by functions that compute. `proofs/` shows that they say what `Messages` of wat asks.
+use Prim.Native.Nat.{ℕ}
+use mathlib.Core.Bool.{Bool, true, _&&_}
+use mathlib.Core.List.{List, [], _++_}
 use Rattle.wat.specs.declared.LexError.{LexError}
 use Rattle.wat.specs.declared.LexError.the-variants.{DanglingBlockComment, Unexpected, InvalidStringElement, InvalidStringEscape, InvalidHexDigit, Expected, UnexpectedEof, NumberTooBig, InvalidUnicodeValue, LoneUnderscore, ConfusingUnicode, InvalidUtf8Id, EmptyId, EmptyAnnotation}
-use Rattle.wat.specs.{Bytes.bytes, Bytes.byte, Bytes.between, Chars.isScalar, Chars.confusing}
-use Rattle.wat.specs.StringModel.{letterOf}
-use Rattle.wat.specs.Messages.{figure, named}
+use Rattle.wat.specs.{Bytes.bytes, Chars.isScalar, Chars.confusing, Cases.errorNumber}
+use Rattle.spelling.specs.Spelled.{hex, shown, lead}
 
--- the digits of a number, in at most so many divisions
-unfoldable pub hexBy : ℕ → ℕ → List ℕ
-hexBy zero n = figure n ∷ []
-hexBy (suc k) n = elim (ltb n 16) [ true ↦ figure n ∷ [] | false ↦ hexBy k (n / 16) ++ (figure (n % 16) ∷ []) ]
+-- what a message says after the text that it begins with
+unfoldable pub rest : LexError → List ℕ
+rest DanglingBlockComment = []
+rest (Unexpected c) = shown c ++ bytes "'"
+rest (InvalidStringElement c) = shown c ++ bytes "'"
+rest (InvalidStringEscape c) = shown c ++ bytes "'"
+rest (InvalidHexDigit c) = shown c ++ bytes "'"
+rest (Expected w c) = shown w ++ (bytes "' but found '" ++ (shown c ++ bytes "'"))
+rest UnexpectedEof = []
+rest NumberTooBig = []
+rest (InvalidUnicodeValue n) = hex n
+rest LoneUnderscore = []
+rest (ConfusingUnicode c) = shown c ++ bytes "'"
+rest (InvalidUtf8Id v e) = []
+rest EmptyId = []
+rest EmptyAnnotation = []
 
-unfoldable pub hex : ℕ → List ℕ
-hex n = hexBy n n
-
--- a letter that may be missing, as a byte
-abbrev pub letterByte : Option ℕ → ℕ
-letterByte (some l) = l
-letterByte none = 0
-
--- a character as a message shows it
-unfoldable pub shown : ℕ → List ℕ
-shown c =
-    elim (letterOf named c) [
-      | some l ↦ byte "\\" ∷ l ∷ []
-      | none ↦ elim (between 0x20 0x7E c) [ true ↦ c ∷ [] | false ↦ bytes "\\u{" ++ (hex c ++ bytes "}") ]
-    ]
+-- the whole of it
+unfoldable pub message : LexError → List ℕ
+message e = lead (errorNumber e .0) ++ rest e
 
 -- the error has a message
 unfoldable pub tellable : LexError → Bool

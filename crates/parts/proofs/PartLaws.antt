@@ -13,25 +13,19 @@ use Rattle.wat.specs.declared.Sign.the-variants.{Unsigned}
 use Rattle.wat.specs.Bytes.{bytes, byte, has}
 use Rattle.wat.specs.Numbers.{prefix, nan-colon, Digits, Signed, Fraction, Exponent}
 use Rattle.wat.specs.NumberModel.{past, run, fraction, sign-of, after-sign}
-use Rattle.wat.specs.Values.{absent, left, bare, dropped, kept, Parts, wholeOf, fractionOf, exponentOf}
-use Rattle.wat.specs.Reading.{Handed}
+use Rattle.values.specs.Values.{absent, left, bare, dropped, kept, Parts, wholeOf, fractionOf, exponentOf}
+use Rattle.values.specs.Reading.{Handed}
 use Rattle.wat.proofs.Numbers.Digits.{passes}
-use Rattle.wat.proofs.Numbers.Parts.{plain, has-append, sign-passed, after-passed, digits-plain, signs, fraction-stops, fraction-passed}
+use Rattle.wat.proofs.Numbers.Parts.{plain, sign-passed, after-passed, digits-plain, signs, fraction-stops, fraction-passed}
 use Rattle.wat.proofs.Numbers.Decides.{body-plain}
 use Rattle.wat.proofs.Hexnums.{differ}
+use Rattle.wat.proofs.Unique.{or-no}
+use Rattle.values.proofs.ValueLaws.{has-parts}
 use Rattle.numbers.proofs.SliceLaws.{at-end-empty}
-use Rattle.parts.specs.Handing.{At, Payload, Left, HandsDigits}
+use Rattle.copies.specs.Copying.{HandsDigits}
+use Rattle.copies.proofs.CopyLaws.{bare-plain}
+use Rattle.parts.specs.Handing.{At, Payload, Left}
 use Rattle.parts.proofs.PlaceLaws.{apart, between, further}
-use Rattle.parts.proofs.CopyLaws.{bare-plain}
-
--- ---- what is in none of the parts
-
-neither : (a b : Bool) → a || b ≡ false → (a ≡ false) × (b ≡ false)
-neither true b e = let z : true ≡ false = e in (cc, cc)
-neither false b e = (refl, e)
-
-without : (s t : List ℕ) → has (byte "_") (s ++ t) ≡ false → (has (byte "_") s ≡ false) × (has (byte "_") t ≡ false)
-without s t e = neither (has (byte "_") s) (has (byte "_") t) (sym (has-append (byte "_") s t) ∙ e)
 
 -- ---- signs
 
@@ -90,7 +84,7 @@ module _ (text : List ℕ) (end : ℕ) (fits : end ≤ length text) {copied : Bo
       let f : from ≡ mark + 1 + length u = apart text end fits (mark + 1) from u s t (record { within = i; same = p }) in
       subst (λ (z : Sign). HandsDigits copied z from s buffer r after) e
       (subst (λ (z : List ℕ). HandsDigits copied sign from z buffer r after) p d) at (n + 1 + length (dropped sign′))
-      (λ j. record { next = omega (arith, signed-length sg); plain = bare-plain s (without u s (neither (eqb m (byte "_")) (has (byte "_") (u ++ s)) (c j) .1) .1) })
+      (λ j. record { next = omega (arith, signed-length sg); plain = bare-plain s (has-parts (byte "_") u s (or-no (eqb m (byte "_")) (has (byte "_") (u ++ s)) (c j) .1) .1) })
 
 no-fraction : {hex : Bool} {f : List ℕ} (copied : Bool) (y : Fraction hex f) (n at : ℕ) (buffer : List ℕ) → length f < 2
     → Handed at (fractionOf copied n y) buffer Absent buffer
@@ -147,11 +141,11 @@ module _ {hex : Bool} {text : List ℕ} {at end : ℕ} (t : At (Parts hex) text 
   module _ (none : has (byte "_") (slice at end text) ≡ false) where
     no-gap : has (byte "_") (x .p ++ (x .f ++ x .e)) ≡ false
     no-gap =
-        without (prefix hex) (x .p ++ (x .f ++ x .e))
-        (without (x .u) (prefix hex ++ (x .p ++ (x .f ++ x .e))) (sym (ap (has (byte "_")) (x .is)) ∙ none) .1) .1
+        has-parts (byte "_") (prefix hex) (x .p ++ (x .f ++ x .e))
+        (has-parts (byte "_") (x .u) (prefix hex ++ (x .p ++ (x .f ++ x .e))) (sym (ap (has (byte "_")) (x .is)) ∙ none) .1) .1
 
     no-gap-after : has (byte "_") (x .f ++ x .e) ≡ false
-    no-gap-after = without (x .p) (x .f ++ x .e) no-gap .1
+    no-gap-after = has-parts (byte "_") (x .p) (x .f ++ x .e) no-gap .1
 
   module _ (copied : Bool) {buffer : List ℕ} where
     pub fraction-absent : {dot to : ℕ} → Left text end (x .f ++ x .e) dot → Left text end (x .e) to → to - dot < 2
@@ -176,11 +170,11 @@ module _ {hex : Bool} {text : List ℕ} {at end : ℕ} (t : At (Parts hex) text 
           subst (λ (z : Sign). HandsDigits copied z from (x .p) buffer r after) (g ∙ sign-is)
           (subst (λ (z : List ℕ). HandsDigits copied sign from z buffer r after) p h) at (length (dropped (x .sign)))
           (λ k.
-          let z = neither hex (has (byte "_") (slice at end text)) (sym c ∙ k) in
+          let z = or-no hex (has (byte "_") (slice at end text)) (sym c ∙ k) in
           record {
             next =
                 omega (arith, digits-place l, signed-length (x .signed), length-append (x .u) (prefix hex), ap (λ (b : Bool). length (prefix b)) (z .0));
-            plain = bare-plain (x .p) (without (x .p) (x .f ++ x .e) (no-gap (z .1)) .0);
+            plain = bare-plain (x .p) (has-parts (byte "_") (x .p) (x .f ++ x .e) (no-gap (z .1)) .0);
           })
 
       pub fraction-handed : {dot to : ℕ} → Left text end (x .f ++ x .e) dot → Left text end (x .e) to → 2 ≤ to - dot
@@ -189,7 +183,7 @@ module _ {hex : Bool} {text : List ℕ} {at end : ℕ} (t : At (Parts hex) text 
       fraction-handed {dot} {to} l m h d c =
           fraction-read text end (t .fits) (x .after) (x .e) (length (x .u ++ (prefix hex ++ x .p))) at dot to l m
           (begins (x .u ++ (prefix hex ++ x .p)) (x .f ++ x .e) (simp append-assoc) l) h
-          (λ k. without (x .f) (x .e) (no-gap-after (sym c ∙ k)) .0) d
+          (λ k. has-parts (byte "_") (x .f) (x .e) (no-gap-after (sym c ∙ k)) .0) d
 
       pub exponent-handed : {sign : Sign} {mark from : ℕ} → Left text end (x .e) mark → mark < end → sign ≡ sign-of (slice (mark + 1) end text)
           → slice from end text ≡ after-sign (slice (mark + 1) end text) → from ≤ end
@@ -198,7 +192,7 @@ module _ {hex : Bool} {text : List ℕ} {at end : ℕ} (t : At (Parts hex) text 
       exponent-handed {sign} {mark} {from} m h g w i d c =
           exponent-read text end (t .fits) (x .power) (length (x .u ++ (prefix hex ++ (x .p ++ x .f)))) at mark from m h
           (begins (x .u ++ (prefix hex ++ (x .p ++ x .f))) (x .e) (simp append-assoc) m) g w i
-          (λ k. without (x .f) (x .e) (no-gap-after (sym c ∙ k)) .1) d
+          (λ k. has-parts (byte "_") (x .f) (x .e) (no-gap-after (sym c ∙ k)) .1) d
 
 -- ---- a payload
 
@@ -218,4 +212,4 @@ module _ {text : List ℕ} {at end : ℕ} (t : At Payload text at end) {sign : S
         subst (λ (z : List ℕ). HandsDigits copied Unsigned from z buffer r after) (l .same) d at (length (u ++ nan-colon))
         (λ k.
         let e : has (byte "_") (u ++ (nan-colon ++ s)) ≡ false = sym (ap (has (byte "_")) is) ∙ (sym c ∙ k) in
-        record { next = omega arith; plain = bare-plain s (without nan-colon s (without u (nan-colon ++ s) e .1) .1) })
+        record { next = omega arith; plain = bare-plain s (has-parts (byte "_") nan-colon s (has-parts (byte "_") u (nan-colon ++ s) e .1) .1) })

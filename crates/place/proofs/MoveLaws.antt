@@ -12,8 +12,8 @@ use Rattle.wat.specs.declared.{Place.Place, Moved.Moved}
 use Rattle.wat.specs.Bytes.{Each}
 use Rattle.wat.specs.Places.{lineFeed, lineFeeds, Column, Leads, Moves}
 use Rattle.wat.proofs.Hexnums.{differ}
-use Rattle.wat.proofs.Shapes.{both}
-use Rattle.wat.proofs.OnePlace.{moves-one}
+use Rattle.wat.proofs.Utf8Laws.{never}
+use Rattle.laws.proofs.OnePlace.{moves-one}
 use Rattle.place.specs.PlaceModel.{last, step, after, answer, moved}
 
 -- a place that a counter holds
@@ -33,12 +33,12 @@ new-line {x = x} e (Column.restarts v r) = Column.restarts (x ∷ v) r
 off-line : {c x n : ℕ} {s w : List ℕ} → lineFeed x ≡ false → s ≡ x ∷ w → Column c s n → Column (c + 1) w n
 off-line e q (Column.goes-on Each.none) = differ (cc)
 off-line {c} {w = w} e q (Column.goes-on (Each.next {t = t} f r)) = let z : t ≡ w = cc in let k : c + suc (length t) ≡ c + 1 + length w = omega (arith, ap length z) in rw k (Column.goes-on (rw z at r))
-off-line {x = x} e q (Column.restarts [] r) = let z : x ≡ 0x0A = cc in absurd (both refl (rw z at e))
+off-line {x = x} e q (Column.restarts [] r) = let z : x ≡ 0x0A = cc in absurd (never refl (rw z at e))
 off-line {w = w} e q (Column.restarts (y ∷ v) {w = t} r) = let z : w ≡ v ++ (0x0A ∷ t) = cc in rw z (Column.restarts v r)
 
 off-feed : {c x n : ℕ} {s w : List ℕ} → lineFeed x ≡ true → s ≡ x ∷ w → Column c s n → Column 1 w n
 off-feed e q (Column.goes-on Each.none) = differ (cc)
-off-feed {x = x} e q (Column.goes-on (Each.next {x = y} f r)) = let z : y ≡ x = cc in absurd (both e (rw z at f))
+off-feed {x = x} e q (Column.goes-on (Each.next {x = y} f r)) = let z : y ≡ x = cc in absurd (never e (rw z at f))
 off-feed {w = w} e q (Column.restarts [] {w = t} r) = let z : w ≡ t = cc in rw z (Column.goes-on r)
 off-feed {w = w} e q (Column.restarts (y ∷ v) {w = t} r) = let z : w ≡ v ++ (0x0A ∷ t) = cc in rw z (Column.restarts v r)
 
@@ -163,8 +163,8 @@ made {p} {q} {w} e (Moves.moves s l) =
   where
     place-of : (o : Option Place) → answer p o ≡ record { ok = true; place = q } → o ≡ some q
     place-of (some r) z = ap (λ (m : Moved). some (m .place)) z
-    place-of none z = absurd (both (ap (λ (m : Moved). m .ok) z) refl)
-made e (Moves.full u v k n) = absurd (both (ap (λ (m : Moved). m .ok) e) refl)
+    place-of none z = absurd (never (ap (λ (m : Moved). m .ok) z) refl)
+made e (Moves.full u v k n) = absurd (never (ap (λ (m : Moved). m .ok) e) refl)
 
 -- a move's answer, where the counter stood at p before it
 abbrev pub since : Place → Moved → Moved

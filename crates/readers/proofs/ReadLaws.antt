@@ -18,19 +18,20 @@ use Rattle.wat.specs.declared.Reading.the-variants as reading
 use Rattle.wat.specs.Bytes.{byte}
 use Rattle.wat.specs.Settings.{lenient}
 use Rattle.wat.specs.Strings.{Str}
-use Rattle.wat.specs.Values.{Reader, Takes, Value, Name, Reads}
-use Rattle.wat.specs.Reading.{There, own, Handed, Read}
+use Rattle.values.specs.Values.{Reader, Takes, Value, Name, Reads}
+use Rattle.values.specs.Reading.{There, own, Read}
 use Rattle.wat.proofs.Hexnums.{differ}
-use Rattle.wat.proofs.OneValue as one
-use Rattle.readers.specs.declared.Presence.{Presence}
-use Rattle.readers.specs.declared.Presence.the-variants as presence
-use Rattle.readers.specs.Here.{Taken}
-use Rattle.readers.specs.Names.{Quoted, Quotes, tail, Sigiled, Names}
-use Rattle.readers.proofs.HandLaws.{handed-part, handed-left, handed-short, handed-copy}
-use Rattle.readers.proofs.PresentLaws.{there-token, there-long, there-fits}
+use Rattle.values.proofs.OneValue as one
+use Rattle.values.proofs.ReadingLaws.{is-token, token-long}
+use Rattle.presence.specs.declared.Presence.{Presence}
+use Rattle.presence.specs.declared.Presence.the-variants as presence
+use Rattle.presence.specs.Here.{Taken}
+use Rattle.names.specs.Names.{Quoted, Quotes, tail, Sigiled, Names}
+use Rattle.names.proofs.HandLaws.{handed-part, handed-left, handed-short, handed-copy}
+use Rattle.presence.proofs.PresentLaws.{there-fits, there-reads}
 
 pub src-reads : {text : List ℕ} {token : Token} → There text token → Read Reader.src text token [] (reading.Text (token .offset) (token .len)) []
-src-reads {text} {token} t = Read.reads t Reads.itself (handed-part (token .offset) [] (sym (add-zero (token .offset))) (sym (there-long t)))
+src-reads {text} {token} t = Read.reads t Reads.itself (handed-part (token .offset) [] (sym (add-zero (token .offset))) (sym (token-long (t .lexed))))
 
 -- ---- 31
 
@@ -54,11 +55,7 @@ only-string j Takes.a-string = refl
 module _ {text : List ℕ} {token : Token} (k : TokenKind) (t : There text token × (token .kind ≡ k)) where
   -- the token has a value for the reader
   value : {reader : Reader} → Takes reader k → (v : Value) × Reads reader k (own text token) v
-  value h = one.reads (rw (t .1) at (there-token (t .0))) h
-
-  read : {reader : Reader} {v : Value} {buffer after : List ℕ} {r : Reading} → Reads reader k (own text token) v → Handed (token .offset) v buffer r after
-      → Read reader text token buffer r after
-  read {reader} {v} l h = Read.reads (t .0) (subst (λ (j : TokenKind). Reads reader j (own text token) v) (sym (t .1)) l) h
+  value h = one.reads (rw (t .1) at (is-token (t .0 .lexed))) h
 
 -- ---- strings
 
@@ -71,13 +68,13 @@ module _ {text : List ℕ} {token : Token} (t : There text token × (token .kind
 
   pub string-reads : {buffer after : List ℕ} {r : Reading} → Quotes (own text token) (token .offset) buffer r after
       → Read Reader.string text token buffer r after
-  string-reads {buffer} (Quotes.plain {v = v} p h) = read kind.String t (Reads.a-string p) (handed-left (token .offset) buffer v 1 h refl refl)
-  string-reads {buffer} (Quotes.too-short {v = v} p h f) = read kind.String t (Reads.a-string p) (handed-short (token .offset) buffer v 1 h f)
-  string-reads {buffer} (Quotes.copied {v = v} p h f) = read kind.String t (Reads.a-string p) (handed-copy (token .offset) buffer v 1 h f refl)
+  string-reads {buffer} (Quotes.plain {v = v} p h) = there-reads (t .0) (t .1) (Reads.a-string p) (handed-left (token .offset) buffer v 1 h refl refl)
+  string-reads {buffer} (Quotes.too-short {v = v} p h f) = there-reads (t .0) (t .1) (Reads.a-string p) (handed-short (token .offset) buffer v 1 h f)
+  string-reads {buffer} (Quotes.copied {v = v} p h f) = there-reads (t .0) (t .1) (Reads.a-string p) (handed-copy (token .offset) buffer v 1 h f refl)
 
 -- ---- names
 
-tail-is : (text : List ℕ) (token : Token) {x : ℕ} {w : List ℕ} → own text token ≡ x ∷ w → w ≡ tail text token
+tail-is : (text : List ℕ) (token : Token) {x : ℕ} {w : List ℕ} → own text token ≡ x ∷ w → w ≡ tail text (token .offset) (token .len)
 tail-is text token {x} {w} e = go (token .len) (drop (token .offset) text) refl e ∙ ap (take (token .len - 1)) (drop-drop 1 (token .offset) text)
   where
     go : (n : ℕ) (t : List ℕ) → drop (token .offset) text ≡ t → take n t ≡ x ∷ w → w ≡ take (n - 1) (drop 1 t)
@@ -113,16 +110,16 @@ annotation-naming = record { takes = Takes.an-annotation; only = only; reads = �
 module _
     {reader : Reader} {k : TokenKind} {x : ℕ} {e : LexError} (g : Naming reader k x e)
     {text : List ℕ} {token : Token} (t : There text token × (token .kind ≡ k)) where
-  split : (own text token ≡ x ∷ tail text token) × (v : Value) × Name e (tail text token) v
+  split : (own text token ≡ x ∷ tail text (token .offset) (token .len)) × (v : Value) × Name e (tail text (token .offset) (token .len)) v
   split =
       let v = value k t (g .takes) in
       let n = g .named (v .1) in
       let y = tail-is text token (n .1) in
       (rw y at (n .1), v .0, rw y at (n .2))
 
-  pub name-sigiled : Sigiled e text token
-  name-sigiled = let s = split in record { there = t .0; sigil = x; is = s .0; value = s .1; named = s .2 }
+  pub name-sigiled : Sigiled e text (token .offset) (token .len)
+  name-sigiled = let s = split in record { fits = there-fits (t .0); sigil = x; is = s .0; value = s .1; named = s .2 }
 
-  pub name-reads : {buffer after : List ℕ} {r : Reading} → Names e (tail text token) (token .offset) buffer r after
+  pub name-reads : {buffer after : List ℕ} {r : Reading} → Names e (tail text (token .offset) (token .len)) (token .offset) buffer r after
       → Read reader text token buffer r after
-  name-reads n = read k t (subst (λ (w : List ℕ). Reads reader k w (n .value)) (sym (split .0)) (g .reads (n .is))) (n .handed)
+  name-reads n = there-reads (t .0) (t .1) (subst (λ (w : List ℕ). Reads reader k w (n .value)) (sym (split .0)) (g .reads (n .is))) (n .handed)

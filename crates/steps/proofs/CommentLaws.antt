@@ -19,7 +19,7 @@ use Rattle.wat.specs.Settings.{Settings}
 use Rattle.wat.specs.Chars.{newline}
 use Rattle.wat.specs.CommentModel.{fresh, ends}
 use Rattle.wat.specs.LexModel.{semi, open-paren, next, Hidden, clear, found, hidden, commentBy, comment, blockBy, lexBy}
-use Rattle.wat.proofs.Shapes.{both}
+use Rattle.wat.proofs.Utf8Laws.{never}
 use Rattle.classes.specs.Scan.{Scanned}
 use Rattle.comments.specs.declared.Confusing.{Confusing}
 use Rattle.comments.specs.declared.Confusing.the-variants.{Clear, Found}
@@ -65,7 +65,7 @@ pub open-within : (s : List ℕ) (at : ℕ) → next (byte ";") (drop (at + 1) s
 open-within s at n = go (drop (at + 1) s) refl n
   where
     go : (t : List ℕ) → drop (at + 1) s ≡ t → next (byte ";") t ≡ true → at + 2 ≤ length s
-    go [] e n = absurd (both n refl)
+    go [] e n = absurd (never n refl)
     go (x ∷ t) e n = omega (arith, length-drop (at + 1) s, ap length e)
 
 module _ (s : List ℕ) (at : ℕ) {end : ℕ} (e : BlockEnd s (at + 2) end) where

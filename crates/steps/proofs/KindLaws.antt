@@ -11,7 +11,7 @@ use Rattle.wat.specs.declared.Number.the-variants.{Neither}
 use Rattle.wat.specs.Bytes.{byte}
 use Rattle.wat.specs.Chars.{letter}
 use Rattle.wat.specs.LexModel.{wordKind}
-use Rattle.wat.proofs.RunKinds.{quotedBy}
+use Rattle.laws.proofs.RunKinds.{quotedBy}
 use Rattle.numbers.proofs.SliceLaws.{at-end-empty}
 use Rattle.steps.proofs.SliceLaws.{slice-one, slice-two}
 

@@ -16,7 +16,7 @@ use Rattle.wat.specs.Lexing.{Longest, Fault, Lexed}
 use Rattle.wat.specs.LexModel as lex
 use Rattle.wat.specs.LexModel.{spaces, open-paren, close-paren, single, semi, run, other, family, lexBy}
 use Rattle.wat.proofs.Unique.{tok-some}
-use Rattle.wat.proofs.Total.{lexed}
+use Rattle.laws.proofs.Total.{lexed}
 use Rattle.classes.specs.declared.Family.{Family}
 use Rattle.classes.specs.declared.Family.the-variants.{Spaces, OpenParen, CloseParen, Single, Semi, Run, Other}
 use Rattle.classes.specs.Ask.{familyOf}

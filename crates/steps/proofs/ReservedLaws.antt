@@ -15,15 +15,15 @@ use Rattle.wat.specs.Cases.{kindNumber}
 use Rattle.wat.specs.Settings.{Settings, lenient}
 use Rattle.wat.specs.Utf8.{WellFormed}
 use Rattle.wat.specs.Chars.{idchar}
-use Rattle.wat.specs.Strings.{HexNum, Elem, Elems, Str}
+use Rattle.wat.specs.Strings.{Str}
 use Rattle.wat.specs.Tokens.{Run}
 use Rattle.wat.specs.NumberModel.{classify}
 use Rattle.wat.specs.RunModel.{stops, fails, on, walk}
 use Rattle.wat.specs.LexModel.{run, family, wordKind, kindOf, runBy, lexBy, next}
-use Rattle.wat.proofs.Hexnums.{differ}
 use Rattle.wat.proofs.Runs.{run-stops}
 use Rattle.wat.proofs.OneKind.{kind-word}
-use Rattle.wat.proofs.RunKinds.{quotedBy, kind-one-string, kind-more}
+use Rattle.laws.proofs.Total.{elems-lenient}
+use Rattle.laws.proofs.RunKinds.{quotedBy, kind-one-string, kind-more}
 use Rattle.numbers.proofs.SliceLaws.{at-byte}
 use Rattle.classes.specs.Scan.{Scanned}
 use Rattle.steps.specs.Steps.{nowhere, stepOf}
@@ -33,20 +33,6 @@ use Rattle.steps.proofs.RunLaws.{walked, Ran, ran-more, ran-walk, scann
 use Rattle.steps.proofs.LexLaws.{lex-family, Within, lex-within}
 
 -- ---- a string under any settings is one under the lenient ones
-
-elem-lenient : {σ : Settings} {s v : List ℕ} → Elem σ s v → Elem lenient s v
-elem-lenient (Elem.raw ch p q r h) = Elem.raw ch p q r (λ e. differ (cc))
-elem-lenient (Elem.letter m) = Elem.letter m
-elem-lenient (Elem.pair p q) = Elem.pair p q
-elem-lenient (Elem.unicode r ch) = Elem.unicode (number-lenient r) ch
-  where
-    number-lenient : {σ : Settings} {ds : List ℕ} {n : ℕ} → HexNum σ ds n → HexNum lenient ds n
-    number-lenient (HexNum.one h) = HexNum.one h
-    number-lenient (HexNum.more k r g h) = HexNum.more k (number-lenient r) tt h
-
-elems-lenient : {σ : Settings} {s v : List ℕ} → Elems σ s v → Elems lenient s v
-elems-lenient Elems.none = Elems.none
-elems-lenient (Elems.next p r) = Elems.next (elem-lenient p) (elems-lenient r)
 
 str-lenient : {σ : Settings} {s v : List ℕ} → Str σ s v → Str lenient s v
 str-lenient (Str.quoted q) = Str.quoted (elems-lenient q)

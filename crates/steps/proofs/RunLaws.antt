@@ -14,24 +14,22 @@ use Rattle.wat.specs.Utf8.{WellFormed}
 use Rattle.wat.specs.Chars.{idchar}
 use Rattle.wat.specs.Strings.{Str}
 use Rattle.wat.specs.Tokens.{Run}
-use Rattle.wat.specs.RunModel.{Body, closed, failed, body, Walk, stops, fails, on, walk}
+use Rattle.wat.specs.RunModel.{failed, Walk, stops, fails, on, walk}
 use Rattle.wat.specs.LexModel.{count, next}
 use Rattle.wat.proofs.Scalars.{after-ascii}
-use Rattle.wat.proofs.Hexnums.{differ}
-use Rattle.wat.proofs.Runs.{Bodies, is-closed, is-failed, bodies, Stopped, ended, halted, quote-no-idchar, idchar-ascii, run-stops, run-fails, Walks, is-run, is-bad, walks}
-use Rattle.wat.proofs.Shapes.{both, word-run}
-use Rattle.wat.proofs.Total.{count-take}
+use Rattle.wat.proofs.Runs.{Stopped, ended, halted, quote-no-idchar, idchar-ascii, run-stops, run-fails, Walks, is-run, is-bad, walks}
+use Rattle.wat.proofs.Utf8Laws.{never}
+use Rattle.wat.proofs.Shapes.{word-run}
+use Rattle.laws.proofs.Total.{count-take}
 use Rattle.classes.specs.Scan.{Scanned}
 use Rattle.classes.proofs.ScanLaws.{count-next}
-use Rattle.steps.proofs.SliceLaws.{slice-split, slice-take, slice-join, part-within, part-is, part-rest}
+use Rattle.strings.specs.Whole.{string, Ends}
+use Rattle.strings.proofs.DefinitionLaws.{ends-str, ends-rest}
+use Rattle.steps.proofs.SliceLaws.{slice-split, slice-take, slice-join}
 
 -- the walk of all that is left
 abbrev pub walked : Settings → List ℕ → Walk
 walked σ t = walk σ (suc (length t)) t
-
--- a string's rest, in the same way
-abbrev pub bodied : Settings → List ℕ → Body
-bodied σ t = body σ (suc (length t)) t
 
 -- ---- runs one after the other
 
@@ -133,7 +131,7 @@ pub quote-at : (s : List ℕ) (at : ℕ) → next (byte "\"") (drop at s) ≡ tr
 quote-at s at n = go (drop at s) refl
   where
     go : (t : List ℕ) → drop at s ≡ t → (at < length s) × (drop at s ≡ byte "\"" ∷ drop (at + 1) s)
-    go [] e = absurd (both (sym (ap (next (byte "\"")) e) ∙ n) refl)
+    go [] e = absurd (never (sym (ap (next (byte "\"")) e) ∙ n) refl)
     go (x ∷ u) e =
         let q : x ≡ byte "\"" = eqb-true x (byte "\"") (sym (ap (next (byte "\"")) e) ∙ n) in
         let d : drop (at + 1) s ≡ u = sym (drop-drop 1 at s) ∙ ap (drop 1) e in
@@ -146,31 +144,26 @@ pub record Quoted (σ : Settings) (s : List ℕ) (at end : ℕ) : Type 0 where
   pub two : at + 2 ≤ end
   pub ran : Ran σ s at end
 
-module _ (σ : Settings) (s : List ℕ) (at : ℕ) (h : at < length s) (q : drop at s ≡ byte "\"" ∷ drop (at + 1) s) where
-  pub string-closed : {n : ℕ} {v : List ℕ} (end : ℕ) → WellFormed (drop at s) → bodied σ (drop (at + 1) s) ≡ closed n v → end ≡ at + 1 + n → Quoted σ s at end
-  string-closed {n} {v} end g e l =
-      go (bodies (suc (length (drop (at + 1) s))) (drop (at + 1) s) (omega arith) (after-ascii (byte "\"") (drop (at + 1) s) (omega arith) (rw q at g))) e
-    where
-      go : {b : Body} → Bodies σ (drop (at + 1) s) b → b ≡ closed n v → Quoted σ s at end
-      go (is-closed {s = w} {v = y} {n = m} x p r f k) e =
-          let z : m ≡ n = cc in
-          let str : List ℕ = byte "\"" ∷ (w ++ (byte "\"" ∷ [])) in
-          let d : drop at s ≡ str ++ x = q ∙ ap (λ (t : List ℕ). byte "\"" ∷ t) (p ∙ sym (append-assoc w (byte "\"" ∷ []) x)) in
-          let long : end ≡ at + length str = omega (arith, length-append w (byte "\"" ∷ [])) in
-          let is = part-is s at end str x (omega arith) d long in
-          record {
-            value = y;
-            is = rw is (Str.quoted r);
-            two = omega (arith, length-append w (byte "\"" ∷ []));
-            ran = record {
-              onward = omega arith;
-              within = part-within s at end str x (omega arith) d long;
-              run = rw is (rw append-nil at (Run.string (Str.quoted r) Run.none));
-              formed = rw (part-rest s at end str x (omega arith) d long) f;
-            };
-          }
-      go (is-failed p r f i j) e = differ (cc)
+module _ (σ : Settings) (s : List ℕ) (at : ℕ) (q : drop at s ≡ byte "\"" ∷ drop (at + 1) s) where
+  pub string-closed : {end : ℕ} → WellFormed (drop at s) → Ends σ s (at + 1) end → Quoted σ s at end
+  string-closed {end} g x =
+      let u = after-ascii (byte "\"") (drop (at + 1) s) (omega arith) (rw q at g) in
+      let n : end - at ≡ suc (x .len) = omega (arith, x .ends) in
+      let e : slice at end s ≡ byte "\"" ∷ take (x .len) (drop (at + 1) s) =
+      sym (slice-take s at end (x .fits) (omega (arith, x .ends))) ∙ ap (take (end - at)) q ∙ ap (λ (m : ℕ). take m (byte "\"" ∷ drop (at + 1) s)) n in
+      let str : Str σ (slice at end s) (x .value) = rw e (ends-str x u) in
+      record {
+        value = x .value;
+        is = str;
+        two = omega (arith, x .ends, x .some);
+        ran = record {
+          onward = omega (arith, x .ends);
+          within = x .fits;
+          run = rw append-nil at (Run.string str Run.none);
+          formed = ends-rest x u;
+        };
+      }
 
-  pub string-failed : {e : LexError} {p n : ℕ} → bodied σ (drop (at + 1) s) ≡ failed e p n → walked σ (drop at s) ≡ fails e (suc p) (suc n)
+  pub string-failed : {e : LexError} {p n : ℕ} → string σ (drop (at + 1) s) ≡ failed e p n → walked σ (drop at s) ≡ fails e (suc p) (suc n)
   unfolding walk
   string-failed e = ap (walked σ) q ∙ rw (quote-no-idchar, walk) (rw e)

@@ -1,11 +1,11 @@
 -- Parts of a text, from a place to an end. Assumes nothing.
 use Prim.Native.Nat.{ℕ, _+_, _-_, _≤_, _<_}
-use mathlib.Core.Path.{_≡_, refl, sym, ap, _∙_}
+use mathlib.Core.Path.{_≡_, sym, ap, _∙_}
 use mathlib.Core.Bool.{false}
 use mathlib.Core.List.{List, [], _∷_, _++_}
 use native.Mathlib.Omega.{arith}
-use lib.ListN.{length, getD, take, drop, length-append, length-drop, take-append-drop, drop-of-length-le}
-use lib.Seq.{slice, length-slice, take-take, take-at, drop-at, drop-drop, drop-append-le, length-take-le, drop-cons}
+use lib.ListN.{length, getD, take, drop, take-append-drop, drop-of-length-le}
+use lib.Seq.{slice, length-slice, take-take, take-at, drop-append-le, length-take-le, drop-cons}
 use lib.Dec.{eqb}
 use Rattle.wat.specs.LexModel.{next}
 use Rattle.numbers.proofs.SliceLaws.{at-byte, at-end-empty}
@@ -40,14 +40,3 @@ module _ (s : List ℕ) (at end : ℕ) (h : end ≤ length s) where
         let n = length-take-le c s k in
         ap (drop at) (sym (take-append-drop end (take c s)) ∙ ap (λ (t : List ℕ). t ++ slice end c s) (take-take end c s m))
         ∙ drop-append-le at (take end s) (slice end c s) (let n = length-take-le end s h in omega arith)
-
--- a part known by its bytes
-module _ (s : List ℕ) (at end : ℕ) (w u : List ℕ) (h : at ≤ length s) (e : drop at s ≡ w ++ u) (n : end ≡ at + length w) where
-  pub part-within : end ≤ length s
-  part-within = omega (arith, length-drop at s, ap length e, length-append w u)
-
-  pub part-is : slice at end s ≡ w
-  part-is = sym (slice-take s at end part-within (omega arith)) ∙ ap (take (end - at)) e ∙ take-at w u (end - at) (omega arith)
-
-  pub part-rest : drop end s ≡ u
-  part-rest = ap (λ (i : ℕ). drop i s) n ∙ sym (drop-drop (length w) at s) ∙ ap (drop (length w)) e ∙ drop-at w u (length w) refl

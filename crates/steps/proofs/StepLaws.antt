@@ -1,16 +1,12 @@
 -- From an answer to the code's step, and back. Assumes nothing.
 use Prim.Native.Nat.{ℕ, _+_, _≤_, _<_}
 use mathlib.Core.Path.{_≡_, refl, sym, ap, _∙_}
-use mathlib.Core.Bool.{Bool, true, false}
+use mathlib.Core.Bool.{true}
 use mathlib.Core.List.{List, []}
 use native.Mathlib.Omega.{arith}
 use native.Mathlib.Numerals.{add-one}
 use lib.ListN.{length, getD, drop, length-drop}
 use lib.Seq.{drop-cons}
-use Rattle.wat.specs.declared.Sign.{Sign}
-use Rattle.wat.specs.declared.Sign.the-variants.{Unsigned, Plus, Minus}
-use Rattle.wat.specs.declared.FloatKind.{FloatKind}
-use Rattle.wat.specs.declared.FloatKind.the-variants.{Inf, Nan, NanVal, Normal}
 use Rattle.wat.specs.declared.TokenKind.{TokenKind}
 use Rattle.wat.specs.declared.TokenKind.the-variants as kind
 use Rattle.wat.specs.declared.LexError.{LexError}
@@ -19,16 +15,16 @@ use Rattle.wat.specs.declared.Answer.the-variants as answer
 use Rattle.wat.specs.Settings.{Settings}
 use Rattle.wat.specs.Utf8.{WellFormed}
 use Rattle.wat.specs.Chars.{space}
-use Rattle.wat.specs.Cases.{flag, signNumber, floatNumber, kindNumber}
-use Rattle.wat.specs.Lexing.{Fault, Lexed}
+use Rattle.wat.specs.Cases.{kindNumber}
+use Rattle.wat.specs.Lexing.{Lexed}
 use Rattle.wat.specs.StringModel.{Peek, nothing, char, peek}
 use Rattle.wat.specs.LexModel as lex
 use Rattle.wat.specs.LexModel.{spaces, family, count, lexBy}
 use Rattle.wat.proofs.Hexnums.{differ}
 use Rattle.wat.proofs.Shapes.{Families, is-space, is-open, is-close, is-semi, is-single, is-char, is-quote, is-other, families}
-use Rattle.wat.proofs.Total.{lexed}
-use Rattle.classes.specs.declared.Family.{Family}
+use Rattle.laws.proofs.Total.{lexed}
 use Rattle.classes.specs.Scan.{Scanned}
+use Rattle.kinds.proofs.NumberLaws.{kind-some, kind-small}
 use Rattle.steps.specs.declared.Step.{Step}
 use Rattle.steps.specs.Steps.{nowhere, stepOf, Stepped}
 use Rattle.steps.proofs.LexLaws.{lex-family, Within, lex-within}
@@ -64,55 +60,6 @@ other-step at t = go (peek t)
     go nothing = refl
     go (char c u) = refl
 
--- ---- the numbers of kinds
-
--- 0 is no kind's number
-pub kind-some : (k : TokenKind) → kindNumber k ≡ 0 → ⊥
-kind-some kind.LineComment e = omega arith
-kind-some kind.BlockComment e = omega arith
-kind-some kind.Whitespace e = omega arith
-kind-some kind.LParen e = omega arith
-kind-some kind.RParen e = omega arith
-kind-some kind.String e = omega arith
-kind-some kind.Id e = omega arith
-kind-some kind.Keyword e = omega arith
-kind-some kind.Annotation e = omega arith
-kind-some kind.Reserved e = omega arith
-kind-some (kind.Integer i) e = omega arith
-kind-some (kind.Float (Inf n)) e = omega arith
-kind-some (kind.Float (Nan n)) e = omega arith
-kind-some (kind.Float (NanVal n u)) e = omega arith
-kind-some (kind.Float (Normal u h)) e = omega arith
-
-flag-most : (b : Bool) (n : ℕ) → flag b n ≤ n
-flag-most true n = omega arith
-flag-most false n = omega arith
-
-sign-most : (s : Sign) → signNumber s ≤ 512
-sign-most Unsigned = omega arith
-sign-most Plus = omega arith
-sign-most Minus = omega arith
-
-float-most : (f : FloatKind) → floatNumber f < 4096
-float-most (Inf n) = omega (arith, flag-most n 512)
-float-most (Nan n) = omega (arith, flag-most n 512)
-float-most (NanVal n u) = omega (arith, flag-most n 512, flag-most u 1024)
-float-most (Normal u h) = omega (arith, flag-most u 1024, flag-most h 2048)
-
-kind-most : (k : TokenKind) → kindNumber k < 4096
-kind-most kind.LineComment = omega arith
-kind-most kind.BlockComment = omega arith
-kind-most kind.Whitespace = omega arith
-kind-most kind.LParen = omega arith
-kind-most kind.RParen = omega arith
-kind-most kind.String = omega arith
-kind-most kind.Id = omega arith
-kind-most kind.Keyword = omega arith
-kind-most kind.Annotation = omega arith
-kind-most kind.Reserved = omega arith
-kind-most (kind.Integer i) = omega (arith, sign-most (i .sign), flag-most (i .underscores) 1024, flag-most (i .hex) 2048)
-kind-most (kind.Float f) = float-most f
-
 pub stepped : (σ : Settings) (s : List ℕ) (at : ℕ) {f : lex.Family} {r : Step} → at < length s → WellFormed (drop at s) → family (getD s at 0) ≡ f → r ≡ stepOf at (lexBy σ f (drop at s)) → Stepped σ s at r
 stepped σ s at {f} {r} h g e q = record { same = same; onward = rw same (reach .0); within = rw same (reach .1); small = rw same (reach .2) }
   where
@@ -121,7 +68,7 @@ stepped σ s at {f} {r} h g e q = record { same = same; onward = rw same (reach 
 
     go : (a : Answer) → Within (drop at s) a → ((stepOf at a .kind ≡ 0 → ⊥) → at < stepOf at a .end) × (stepOf at a .end ≤ length s) × (stepOf at a .kind < 4096)
     go answer.End w = (λ n. absurd (n refl), omega arith, omega arith)
-    go (answer.Token k n) w = (λ z. omega (arith, w .0), omega (arith, w .1, length-drop at s), kind-most k)
+    go (answer.Token k n) w = (λ z. omega (arith, w .0), omega (arith, w .1, length-drop at s), kind-small k)
     go (answer.Fault x p n) w = (λ z. absurd (z refl), omega arith, omega arith)
 
     reach : ((stepOf at (lex.lex σ (drop at s)) .kind ≡ 0 → ⊥) → at < stepOf at (lex.lex σ (drop at s)) .end) × (stepOf at (lex.lex σ (drop at s)) .end ≤ length s) × (stepOf at (lex.lex σ (drop at s)) .kind < 4096)

@@ -26,7 +26,7 @@ module _ (s : List ℕ) (at : ℕ) (n : next (byte "\"") (drop at s) ≡ true) w
     parsed-closed {end} g e =
         let q = quote-at s at n in
         let c : Ends σ s (at + 1) end = subst (Parsed σ s (at + 1)) e p in
-        string-closed σ s at (q .0) (q .1) end g (c .is) (c .ends)
+        string-closed σ s at (q .1) g c
 
     pub parsed-failed : {e : LexError} {place after : ℕ} → r ≡ Failed e place after
         → (from : ℕ) × (to : ℕ) × (walked σ (drop at s) ≡ fails e from to) × (record { error = e; place = place; after = after } ≡ faultAt at e from to)
@@ -35,4 +35,4 @@ module _ (s : List ℕ) (at : ℕ) (n : next (byte "\"") (drop at s) ≡ true) w
         let f : Fails σ s (at + 1) e place after = subst (Parsed σ s (at + 1)) z p in
         let a : place ≡ at + suc (f .from) = omega (arith, f .stands) in
         let b : after ≡ at + suc (f .to) = omega (arith, f .leaves) in
-        (suc (f .from), suc (f .to), string-failed σ s at (q .0) (q .1) (f .is), cc)
+        (suc (f .from), suc (f .to), string-failed σ s at (q .1) (f .is), cc)

@@ -11,7 +11,6 @@ use Rattle.wat.specs.RunModel as model
 use Rattle.wat.proofs.Hexnums.{differ}
 use Rattle.wat.proofs.Runs.{Stopped, run-stops}
 use Rattle.steps.specs.declared.Fault.{Fault}
-use Rattle.steps.specs.declared.Walk.{Walk}
 use Rattle.steps.specs.declared.Walk.the-variants.{Stops, Fails}
 use Rattle.steps.specs.Steps.{faultAt, walkOf}
 use Rattle.steps.proofs.RunLaws.{walked, Ran, ran-walk}

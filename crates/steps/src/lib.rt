@@ -13,7 +13,7 @@ ghost use Rattle.wat.specs.NumberModel.{classify};
 ghost use Rattle.wat.specs.RunModel as run;
 ghost use Rattle.wat.specs.LexModel.{next, wordKind};
 ghost use Rattle.wat.specs.LexModel as model;
-ghost use Rattle.wat.proofs.RunKinds.{quotedBy};
+ghost use Rattle.laws.proofs.RunKinds.{quotedBy};
 ghost use Rattle.classes.specs.Table.{Classes};
 ghost use Rattle.steps.specs.Steps.{nowhere, stepOf, Stepped, walkOf};
 use classes::Family;

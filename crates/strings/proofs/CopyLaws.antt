@@ -9,8 +9,8 @@ use lib.Seq.{length-take-le, drop-drop}
 use Rattle.wat.specs.declared.LexError.{LexError}
 use Rattle.wat.specs.Settings.{lenient}
 use Rattle.wat.specs.StringModel.{quote, read}
-use Rattle.utf8.specs.Writing.{Put}
-use Rattle.utf8.proofs.PutLaws.{put-front, put-back, put-length}
+use Rattle.buffers.specs.Writing.{Put}
+use Rattle.buffers.proofs.PutLaws.{put-front, put-back, put-length}
 use Rattle.elements.specs.Elements.{Element, Refusal}
 use Rattle.strings.specs.Raw.{Raws}
 use Rattle.strings.specs.Whole.{string, Whole, valueOf, Copied}

@@ -1,4 +1,4 @@
--- From what is answered here to wat's definitions of strings and of their errors, in text that is UTF-8, and back. Assumes nothing.
+-- From what is answered here to wat's definition of strings, in text that is UTF-8, and back. Assumes nothing.
 use Prim.Native.Nat.{ℕ, suc, _+_, _-_}
 use mathlib.Core.Path.{_≡_, refl, ap, _∙_}
 use mathlib.Core.List.{List, [], _∷_, _++_, append-assoc}
@@ -6,16 +6,14 @@ use native.Mathlib.Omega.{arith}
 use lib.ListN.{length, take, drop, length-append}
 use lib.Seq.{take-append-add, drop-append-add, drop-drop}
 use Rattle.wat.specs.Bytes.{byte}
-use Rattle.wat.specs.declared.LexError.{LexError}
 use Rattle.wat.specs.Settings.{Settings}
 use Rattle.wat.specs.Utf8.{WellFormed}
 use Rattle.wat.specs.Strings.{Elems, Str}
-use Rattle.wat.specs.StringFaults.{BadStr}
-use Rattle.wat.specs.RunModel.{Body, closed, failed}
+use Rattle.wat.specs.RunModel.{Body, closed}
 use Rattle.wat.proofs.Hexnums.{differ}
-use Rattle.wat.proofs.Runs.{Bodies, is-closed, is-failed, bodies, str-body, bad-body}
-use Rattle.wat.proofs.ValueLaws.{str-short}
-use Rattle.strings.specs.Whole.{string, Ends, Fails, Whole, valueOf}
+use Rattle.wat.proofs.Runs.{Bodies, is-closed, is-failed, bodies, str-body}
+use Rattle.values.proofs.ValueLaws.{str-short}
+use Rattle.strings.specs.Whole.{string, Ends, Whole, valueOf}
 
 -- ---- from the answers
 
@@ -59,19 +57,6 @@ module _ {σ : Settings} {s : List ℕ} {at end : ℕ} (x : Ends σ s at end) (u
   pub ends-rest : WellFormed (drop end s)
   ends-rest = rw (x .ends, ← (drop-drop (x .len) at s)) (closed-rest σ (drop at s) (x .is) u)
 
-module _ {σ : Settings} {s : List ℕ} {at place after : ℕ} {e : LexError} (x : Fails σ s at e place after) (u : WellFormed (drop at s)) where
-  -- no string: the error, its place and the position count from the opening quote
-  pub fails-bad : BadStr σ (byte "\"" ∷ drop at s) e (1 + x .from) (1 + x .to)
-  fails-bad = go (bodies (suc (length (drop at s))) (drop at s) (omega arith) u) (x .is)
-    where
-      go : {b : Body} → Bodies σ (drop at s) b → b ≡ failed e (x .from) (x .to) → BadStr σ (byte "\"" ∷ drop at s) e (1 + x .from) (1 + x .to)
-      go (is-closed r d p w l) q = differ (cc)
-      go (is-failed {e = f} {a = a} {b = b} d p y k l) q =
-          let i : f ≡ e = cc in
-          let m : x .from ≡ a = cc in
-          let n : x .to ≡ b = cc in
-          rw (m, n, k, l, d, ← i) (BadStr.quoted p y)
-
 -- ---- from the definitions
 
 pub str-string : {σ : Settings} {w v : List ℕ} (t u : List ℕ) (n : ℕ) → Str σ w v → byte "\"" ∷ t ≡ w ++ u → length w ≡ 1 + n → string σ t ≡ closed n v
@@ -86,13 +71,3 @@ str-whole {σ} {w} {v} t u r e =
     let s = str-short r in
     let c : string σ t ≡ closed (length w - 1) v = str-string t u (length w - 1) r e (omega arith) in
     rw c (tt, refl)
-
-pub bad-string : {σ : Settings} {t : List ℕ} {e : LexError} (from to : ℕ) → BadStr σ (byte "\"" ∷ t) e (1 + from) (1 + to) → string σ t ≡ failed e from to
-bad-string {t = t} from to x = go x refl refl refl
-  where
-    go : {σ : Settings} {w : List ℕ} {e : LexError} {p q : ℕ} → BadStr σ w e p q → w ≡ byte "\"" ∷ t → p ≡ 1 + from → q ≡ 1 + to → string σ t ≡ failed e from to
-    go (BadStr.quoted {b = b} {p = p} {c = c} {u = u} r y) z k l =
-        let d : t ≡ b ++ (p ++ (c ++ u)) = cc in
-        let m : from ≡ length b + length p = omega arith in
-        let n : to ≡ length b + (length p + length c) = omega arith in
-        rw (d, m, n) (bad-body (suc (length (b ++ (p ++ (c ++ u))))) r y (omega (arith, length-append b (p ++ (c ++ u)))))

@@ -1,27 +1,18 @@
 -- Laws of a string that has been read in part: how far the model is there, and what is left of it. Assumes nothing.
 use Prim.Native.Nat.{ℕ, zero, suc, _+_, _-_, _≤_, _<_}
 use mathlib.Core.Path.{_≡_, refl, sym, ap, _∙_}
-use mathlib.Core.List.{List, [], _++_, append-assoc, append-nil}
+use mathlib.Core.List.{List, [], _++_, append-nil}
 use native.Mathlib.Omega.{arith}
-use native.Mathlib.Nat.{zero-add, add-assoc}
 use lib.ListN.{length, take, drop, length-drop, length-append, take-append-drop}
 use lib.Seq.{drop-drop, length-take-le}
 use Rattle.wat.specs.declared.LexError.{LexError}
 use Rattle.wat.specs.Settings.{Settings}
 use Rattle.wat.specs.StringModel.{quote, refused, read}
 use Rattle.wat.specs.RunModel.{Body, closed, failed, ahead, body}
-use Rattle.wat.proofs.Runs.{elems-body}
+use Rattle.wat.proofs.Runs.{ahead-ahead, ahead-none, elems-body}
 use Rattle.elements.specs.Elements.{Element, Refusal}
 use Rattle.strings.specs.Raw.{Raws}
 use Rattle.strings.specs.Whole.{string, Ends, Fails, Whole, valueOf}
-
-ahead-none : (b : Body) → ahead 0 [] b ≡ b
-ahead-none (closed k z) = cc (zero-add k)
-ahead-none (failed e p q) = cc (zero-add p, zero-add q)
-
-ahead-ahead : (n m : ℕ) (v w : List ℕ) (b : Body) → ahead n v (ahead m w b) ≡ ahead (n + m) (v ++ w) b
-ahead-ahead n m v w (closed k z) = cc (add-assoc n m k, append-assoc v w z)
-ahead-ahead n m v w (failed e p q) = cc (add-assoc n m p, add-assoc n m q)
 
 -- from `at` to i stand elements for w, and the model has fuel for the rest
 pub record Passed (σ : Settings) (s : List ℕ) (at i : ℕ) (w : List ℕ) : Type 0 where

@@ -6,7 +6,7 @@ use lib.ListN.{length, drop}
 use Rattle.wat.specs.declared.LexError.{LexError}
 use Rattle.wat.specs.Settings.{Settings}
 use Rattle.wat.specs.RunModel as model
-use Rattle.utf8.specs.Writing.{Put}
+use Rattle.buffers.specs.Writing.{Put}
 use Rattle.strings.specs.declared.Body.{Body}
 use Rattle.strings.specs.declared.Body.the-variants.{Closed, Failed}
 

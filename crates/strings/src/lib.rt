@@ -99,7 +99,7 @@ pub fn decoded_len(s: &[u8], at: usize) -> usize
                 i = j + len;
             }
             Read::Char { value, len } => {
-                n += utf8::len_utf8(value);
+                n += buffers::len_utf8(value);
                 i = j + len;
             }
             Read::Quote => {
@@ -126,7 +126,7 @@ pub fn decode_into(s: &[u8], at: usize, dst: &mut [u8]) -> usize
     let mut i = at;
     loop {
         let j = raw_end(s, i);
-        utf8::copy(dst, to, s, i, j - i);
+        buffers::copy(dst, to, s, i, j - i);
         to += j - i;
         let b = pair(s, j);
         if b < 256 {
@@ -142,7 +142,7 @@ pub fn decode_into(s: &[u8], at: usize, dst: &mut [u8]) -> usize
                 i = j + len;
             }
             Read::Char { value, len } => {
-                to += utf8::encode_utf8(dst, to, value);
+                to += buffers::encode_utf8(dst, to, value);
                 i = j + len;
             }
             Read::Quote => {

@@ -1,3 +1,2 @@
-pub mod WordLaws
-mod ReadLaws
+mod WordLaws
 pub mod OneWords

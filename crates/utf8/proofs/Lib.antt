@@ -1,9 +1,3 @@
-pub mod DecodeLaws
-pub mod ScanLaws
-pub mod BoundaryLaws
-pub mod PutLaws
-mod ScalarLaws
-mod FollowLaws
+mod ScanLaws
 mod FollowingLaws
 mod ResumeLaws
-pub mod EncodeLaws

@@ -13,7 +13,8 @@ use Rattle.wat.specs.Utf8.{Range, _‥_, table, Fits, done, next, Char}
 use Rattle.wat.specs.Utf8Model.{front, scan, checked}
 use Rattle.wat.proofs.Utf8Laws.{row-at, char-of, char-front}
 use Rattle.wat.proofs.Scalars.{below}
-use Rattle.utf8.specs.Following.{Continues, Second, Follows, Right, Begins, Resumes}
+use Rattle.chars.specs.Boundary.{Continues}
+use Rattle.utf8.specs.Following.{Second, Follows, Right, Begins, Resumes}
 use Rattle.utf8.proofs.ScanLaws.{scan-whole, scan-ascii}
 
 -- characters of two bytes, three and four

@@ -1,24 +1,17 @@
 -- Laws for the code that checks a text from a place on. Assumes nothing.
-use Prim.Native.Nat.{ℕ, zero, suc, pred, _+_, _≤_, _<_}
-use mathlib.Core.Path.{_≡_, refl, ap, _∙_}
+use Prim.Native.Nat.{ℕ, suc, pred, _+_, _≤_, _<_}
+use mathlib.Core.Path.{_≡_, ap, _∙_}
 use mathlib.Core.List.{List, [], _∷_}
 use native.Mathlib.Omega.{arith}
-use native.Mathlib.Nat.{add-zero}
 use lib.ListN.{length, getD, drop, drop-of-length-le}
 use lib.Seq.{drop-cons, drop-drop}
 use Rattle.wat.specs.Utf8.{Says}
 use Rattle.wat.specs.Utf8Model.{Whole, Wrong, Cut, front, verdict, scan, checked}
 use Rattle.wat.specs.declared.Checked.{Checked}
 use Rattle.wat.specs.declared.Checked.the-variants.{Ok, Bad}
-use Rattle.wat.proofs.Utf8Laws.{char-front, checked-says, says-one}
+use Rattle.wat.proofs.Utf8Laws.{char-front, scan-skip, checked-says}
 use Rattle.wat.proofs.Scalars.{ascii}
-use Rattle.utf8.proofs.DecodeLaws.{front-char}
-
-scan-skip : (at k : ℕ) (t : List ℕ) → scan at k t ≡ scan (at + k) 0 (drop k t)
-unfolding scan
-scan-skip at zero t = rw add-zero
-scan-skip at (suc k) [] = refl
-scan-skip at (suc k) (b ∷ t) = scan-skip (suc at) k t ∙ ap (λ (n : ℕ). scan n 0 (drop k t)) (omega arith)
+use Rattle.chars.proofs.DecodeLaws.{front-char}
 
 scan-here : (s : List ℕ) (i : ℕ) → i < length s → scan i 0 (drop i s) ≡ verdict i (front (drop i s)) (λ k. scan (suc i) k (drop (suc i) s))
 unfolding scan
@@ -44,9 +37,6 @@ pub scan-end : (s : List ℕ) (i : ℕ) → length s ≤ i → scan i 0 (drop i 
 unfolding scan
 scan-end s i h = rw (drop-of-length-le s h)
 
--- whoever has the model's answer knows what it says, and the other way round
+-- whoever has the model's answer knows what it says
 pub says-of-model : (s : List ℕ) (r : Checked) → r ≡ checked s → Says s r
 says-of-model s r e = rw e (checked-says s)
-
-pub model-of-says : (s : List ℕ) (r : Checked) → Says s r → r ≡ checked s
-model-of-says s r h = says-one s r (checked s) h (checked-says s)

@@ -4,10 +4,7 @@ use mathlib.Core.Path.{_≡_}
 use mathlib.Core.List.{List}
 use lib.ListN.{length, getD, drop}
 use Rattle.wat.specs.Utf8Model.{scan, checked}
-
--- a byte that continues a character, and starts none
-abbrev pub Continues : ℕ → Type 0
-Continues b = (0x80 ≤ b) × (b < 0xC0)
+use Rattle.chars.specs.Boundary.{Continues}
 
 -- the four first bytes whose second byte has a range of its own
 pub record Second (a b : ℕ) : Type 0 where

@@ -1,5 +1,1 @@
-pub mod Fronts
-pub mod Decoding
 pub mod Following
-pub mod Boundary
-pub mod Writing

@@ -3,14 +3,14 @@ use Prim.Native.Nat.{ℕ, zero, suc, _+_, _≤_, _<_}
 use mathlib.Core.Path.{_≡_, refl, sym, _∙_}
 use mathlib.Core.Logic.{_⊎_, inl, inr, ⊎-elim}
 use mathlib.Core.Bool.{Bool, true, false, _&&_, _||_}
-use mathlib.Core.List.{[]}
 use native.Mathlib.Omega.{arith}
 use lib.Dec.{eqb}
 use borrow.Author.Tests.{ne-eqb}
 use Rattle.wat.specs.Bytes.{bytes, between, has}
 use Rattle.wat.specs.Chars.{idchar, confusing}
 use Rattle.wat.proofs.Scalars.{between-over, between-under, below}
-use Rattle.wat.proofs.Shapes.{both, false-of}
+use Rattle.wat.proofs.Utf8Laws.{never}
+use Rattle.wat.proofs.Shapes.{false-of}
 use Rattle.wat.proofs.Runs.{idchar-ascii}
 use Rattle.wat.proofs.Elements.{has-every}
 
@@ -35,7 +35,7 @@ passed f from (suc n) e x h k = go (f from) refl e (λ q. passed f (suc from) n 
   where
     go : (b : Bool) → f from ≡ b → b && passes f (suc from) n ≡ true → (passes f (suc from) n ≡ true → suc from ≤ x → x < suc from + n → f x ≡ true) → f x ≡ true
     go true p e ih = ⊎-elim (λ l. let q : x ≡ from = omega arith in rw q p) (λ l. ih e l (omega arith)) (below x (suc from))
-    go false p e ih = absurd (both e refl)
+    go false p e ih = absurd (never e refl)
 
 -- ---- idchars: any printable ASCII character but space, quotation mark, comma, semicolon and bracket (the standard, "Identifiers")
 

@@ -1,7 +1,7 @@
 -- The standard's own forms, where ours are shaped otherwise: comments by characters, and string elements one by one. The two say the same. Assumes nothing.
 use Prim.Native.Nat.{ℕ, zero, suc, _+_, _*_, _≤_, _<_}
 use mathlib.Core.Path.{_≡_, refl, sym, ap, _∙_, subst}
-use mathlib.Core.Logic.{_⊎_, ⊎-elim}
+use mathlib.Core.Logic.{⊎-elim}
 use mathlib.Core.Bool.{Bool, true, false, _||_}
 use mathlib.Core.List.{List, [], _∷_, _++_, List·Memᴰ·head, List·Memᴰ·tail, append-nil, append-assoc}
 use native.Mathlib.Omega.{arith}
@@ -15,11 +15,10 @@ use Rattle.wat.specs.Chars.{newline, control}
 use Rattle.wat.specs.Comments.{LineComment, Block}
 use Rattle.wat.specs.Strings.{Hex, HexNum, escapes, Elem}
 use Rattle.wat.proofs.Hexnums.{differ}
-use Rattle.wat.proofs.Utf8Laws.{char-full, chars-meet}
+use Rattle.wat.proofs.Utf8Laws.{char-full, chars-meet, never}
 use Rattle.wat.proofs.Scalars.{alone-at, ascii, below, after-ascii}
-use Rattle.wat.proofs.Elements.{AllPairs, pairs-listed}
-use Rattle.wat.proofs.OneValue.{cut-off}
-use Rattle.wat.proofs.Shapes.{both, each-append}
+use Rattle.wat.proofs.Elements.{AllPairs, pairs-listed, cut-off}
+use Rattle.wat.proofs.Shapes.{each-append}
 use Rattle.wat.proofs.Boundaries.{High, char-high, cut, last-block}
 use Rattle.wat.proofs.Blocks.{block-some}
 
@@ -62,7 +61,7 @@ no-newline b h n {c} ch e q = go e (alone-at c b ch q h)
   where
     go : {l : List ℕ} → Each newline false l → l ≡ b ∷ [] → ⊥
     go Each.none r = differ (cc)
-    go (Each.next {x = x} p i) r = let z : x ≡ b = cc in both n (rw z at p)
+    go (Each.next {x = x} p i) r = let z : x ≡ b = cc in never n (rw z at p)
 
 pub line-standard : {t : List ℕ} → WellFormed t → LineComment (bytes ";;" ++ t) → Linechars t
 unfolding newline has
@@ -107,7 +106,7 @@ marks-not n p q = rw (ne-eqb n 0x3B p, ne-eqb n 0x28 q)
 others : {c t : List ℕ} → Each marks false c → Block t → Block (c ++ t)
 unfolding marks
 others Each.none b = b
-others (Each.next {x = x} e r) b = Block.other (λ (q : x ≡ 0x3B). both {b = marks 0x3B} refl (rw q at e)) (λ (q : x ≡ 0x28). both {b = marks 0x28} refl (rw q at e)) (others r b)
+others (Each.next {x = x} e r) b = Block.other (λ (q : x ≡ 0x3B). never {x = marks 0x3B} refl (rw q at e)) (λ (q : x ≡ 0x28). never {x = marks 0x28} refl (rw q at e)) (others r b)
 
 -- what follows a look-ahead
 ahead : (t : List ℕ) (b x : ℕ) → ((v : List ℕ) → t ≡ b ∷ v → ⊥) → ((y : ℕ) (u : List ℕ) → (y ≡ b → ⊥) → Block (y ∷ u) → Block (x ∷ y ∷ u)) → Block t → Block (x ∷ t)
@@ -245,8 +244,8 @@ unfolding control
 from-space n e = go (ltb n 0x20) (eqb n 0x7F) refl refl e
   where
     go : (a b : Bool) → ltb n 0x20 ≡ a → eqb n 0x7F ≡ b → a || b ≡ false → (0x20 ≤ n) × (n ≡ 0x7F → ⊥)
-    go true b p q e = absurd (both refl e)
-    go false true p q e = absurd (both refl e)
+    go true b p q e = absurd (never refl e)
+    go false true p q e = absurd (never refl e)
     go false false p q e = (ltb-false n 0x20 p, eqb-false n 0x7F q)
 
 pub element-standard : {s v : List ℕ} (x : Elem lenient s v) → Singles x → Stringelem s v

@@ -1,15 +1,14 @@
 -- Document 01's numbers and values for each case of the enums: kinds, errors and refusals.
 use Prim.Native.Nat.{ℕ, _+_}
 use mathlib.Core.Bool.{Bool, true, false}
-use mathlib.Core.List.{List, [], _∷_, _++_}
+use mathlib.Core.List.{List, [], _∷_}
 use mathlib.Core.Option.{Option, none, some}
-use Rattle.wat.specs.declared.{Sign.Sign, FloatKind.FloatKind, TokenKind.TokenKind, LexError.LexError, Refusal.Refusal, Stop.Stop}
+use Rattle.wat.specs.declared.{Sign.Sign, FloatKind.FloatKind, TokenKind.TokenKind, LexError.LexError, Refusal.Refusal}
 use Rattle.wat.specs.declared.Sign.the-variants.{Unsigned, Plus, Minus}
 use Rattle.wat.specs.declared.FloatKind.the-variants.{Inf, Nan, NanVal, Normal}
 use Rattle.wat.specs.declared.TokenKind.the-variants as kind
 use Rattle.wat.specs.declared.LexError.the-variants as error
 use Rattle.wat.specs.declared.Refusal.the-variants as refusal
-use Rattle.wat.specs.declared.Stop.the-variants as stop
 
 abbrev pub flag : Bool → ℕ → ℕ
 flag true n = n
@@ -68,18 +67,14 @@ number refusal.NotThatKind = (31, [])
 number refusal.BufferTooShort = (32, [])
 number refusal.NoMessage = (34, [])
 
--- why a listing stopped: the number and values of its refusal, with its place last; 33 has none
-abbrev pub stopNumber : Stop → Option (ℕ × List ℕ)
-stopNumber stop.End = none
-stopNumber stop.Budget = none
-stopNumber (stop.Refused r p) = some ((number r) .0, (number r) .1 ++ (p ∷ []))
-stopNumber stop.Full = some (33, [])
+-- the numbers of a listing that stops for want of room, and of a move of the place counter that is refused: no `Refusal` is either
+abbrev pub listFull : ℕ
+listFull = 33
 
--- the number of a move of the place counter that is refused
 abbrev pub counterFull : ℕ
 counterFull = 35
 
--- where a reader's refusal stands: 2 at valid-up-to, 1, 3, 4 and 22 to 24 at the token's offset, 30 to 34 nowhere
+-- where a reader's refusal stands: 2 at valid-up-to, 1, 3, 4 and 22 to 24 at the token's offset, 30 to 32 and 34 nowhere
 abbrev pub placeIn : ℕ → Refusal → Option ℕ
 placeIn offset refusal.TooLong = some offset
 placeIn offset (refusal.NotUtf8 v e) = some v

@@ -3,7 +3,7 @@ use Prim.Native.Nat.{_+_}
 use native.Mathlib.Omega.{arith}
 use borrow.Author.Needs.{needs}
 use lib.ListN.{drop}
-use Rattle.utf8.specs.Decoding.{Character}
+use Rattle.chars.specs.Decoding.{Character}
 use Rattle.elements.proofs.CharLaws.{is-char, is-nothing, encode-short, scalar-small}
 use Rattle.elements.proofs.ElementLaws.{an-element, a-refusal, close-end, close-yes, close-no}
 use Rattle.elements.proofs.close_brace.Statement.{statement}

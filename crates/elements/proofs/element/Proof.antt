@@ -3,8 +3,8 @@ use mathlib.Core.Path.{refl, sym, ap, _∙_}
 use native.Mathlib.Omega.{arith}
 use borrow.Author.Needs.{needs}
 use lib.ListN.{length, getD, drop, length-drop}
-use Rattle.utf8.specs.Decoding.{Character}
-use Rattle.utf8.proofs.DecodeLaws.{decoded-end}
+use Rattle.chars.specs.Decoding.{Character}
+use Rattle.chars.proofs.DecodeLaws.{decoded-end}
 use Rattle.elements.proofs.CharLaws.{ascii-character, encoded}
 use Rattle.elements.proofs.ElementLaws.{an-element, a-refusal, says-same, read-nothing, read-quoted, read-escape, read-control, read-raw, ascii-shown}
 use Rattle.elements.proofs.element.Statement.{statement}

@@ -4,7 +4,7 @@ use mathlib.Core.Path.{refl}
 use native.Mathlib.Omega.{arith}
 use borrow.Author.Needs.{needs}
 use lib.ListN.{drop}
-use Rattle.utf8.specs.Decoding.{Character}
+use Rattle.chars.specs.Decoding.{Character}
 use Rattle.elements.proofs.CharLaws.{is-char, is-nothing, digit-is, digit-not, letter-is, letter-not}
 use Rattle.elements.proofs.ElementLaws.{an-element, a-refusal, says-same, escape-end, escape-unicode, escape-letter, escape-digit, escape-no}
 use Rattle.elements.proofs.escape.Statement.{statement}

@@ -1,7 +1,7 @@
 -- `elements::must_char` meets its contract: an ASCII byte is a character by itself. Assumes nothing.
 use native.Mathlib.Omega.{arith}
 use borrow.Author.Needs.{needs}
-use Rattle.utf8.proofs.DecodeLaws.{decoded-end}
+use Rattle.chars.proofs.DecodeLaws.{decoded-end}
 use Rattle.elements.proofs.CharLaws.{ascii-character}
 use Rattle.elements.proofs.must_char.Statement.{statement}
 use Rattle.elements.proofs.must_char.Tie as tie

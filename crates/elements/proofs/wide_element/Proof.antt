@@ -4,9 +4,10 @@ use mathlib.Core.Path.{sym, ap, _∙_}
 use native.Mathlib.Omega.{arith}
 use borrow.Author.Needs.{needs}
 use lib.ListN.{length, drop}
-use Rattle.utf8.specs.Decoding.{Character}
+use Rattle.wat.proofs.Elements.{high-raw}
+use Rattle.chars.specs.Decoding.{Character}
 use Rattle.elements.proofs.CharLaws.{is-char, is-nothing, high, encoded}
-use Rattle.elements.proofs.ElementLaws.{an-element, a-refusal, read-nothing, read-hidden, read-raw, high-raw}
+use Rattle.elements.proofs.ElementLaws.{an-element, a-refusal, read-nothing, read-hidden, read-raw}
 use Rattle.elements.proofs.wide_element.Statement.{statement}
 use Rattle.elements.proofs.wide_element.Tie as tie
 

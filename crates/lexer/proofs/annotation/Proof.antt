@@ -1,5 +1,5 @@
 -- 1 and 2, and then the position. Assumes nothing.
-use Rattle.lexer.proofs.CheckLaws.{text-sound, text-annotates}
+use Rattle.standing.proofs.CheckLaws.{text-sound, text-annotates}
 use Rattle.lexer.proofs.annotation.Statement.{statement}
 use Rattle.lexer.proofs.annotation.Tie as tie
 

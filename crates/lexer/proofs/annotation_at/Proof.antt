@@ -2,7 +2,8 @@
 use mathlib.Core.Path.{sym, _∙_}
 use borrow.Author.Tests.{not-true, not-false}
 use Rattle.wat.specs.Calls as calls
-use Rattle.lexer.proofs.CallLaws.{sign-none, sign-some, sign-stands, same-kind, other-kind, annotation-end, annotation-fault, annotation-token, annotation-other}
+use Rattle.kinds.proofs.NumberLaws.{same-kind, other-kind}
+use Rattle.lexer.proofs.CallLaws.{sign-none, sign-some, sign-stands, annotation-end, annotation-fault, annotation-token, annotation-other}
 use borrow.Author.Needs.{needs}
 use Rattle.lexer.proofs.annotation_at.Statement.{statement}
 use Rattle.lexer.proofs.annotation_at.Tie as tie

@@ -1,7 +1,7 @@
 -- 1 to 4, and then the answer there. Assumes nothing.
 use mathlib.Core.Path.{subst}
 use Rattle.wat.specs.Calls as calls
-use Rattle.lexer.specs.Checks.{Meets}
+use Rattle.standing.specs.Checks.{Meets}
 use Rattle.lexer.proofs.CallLaws.{parsed}
 use borrow.Author.Needs.{needs}
 use Rattle.lexer.proofs.parse.Statement.{statement}

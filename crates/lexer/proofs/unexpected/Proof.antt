@@ -4,7 +4,7 @@ use mathlib.Core.Path.{sym, ap, subst, _∙_}
 use Rattle.wat.specs.declared.LexError.the-variants.{Unexpected}
 use Rattle.wat.specs.declared.Answer.the-variants as answer
 use Rattle.wat.specs.LexModel.{otherBy}
-use Rattle.utf8.specs.Decoding.{Decodes}
+use Rattle.chars.specs.Decoding.{Decodes}
 use Rattle.lexer.proofs.FaultLaws.{fault-end, fault-here}
 use borrow.Author.Needs.{needs}
 use Rattle.lexer.proofs.unexpected.Statement.{statement}

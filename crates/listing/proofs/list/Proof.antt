@@ -2,8 +2,8 @@
 use mathlib.Core.Path.{subst}
 use borrow.Author.Needs.{needs}
 use Rattle.wat.specs.Division.{Listing}
-use Rattle.lexer.specs.declared.Met.{Met}
-use Rattle.lexer.specs.Checks.{Meets}
+use Rattle.standing.specs.declared.Met.{Met}
+use Rattle.standing.specs.Checks.{Meets}
 use Rattle.listing.proofs.GoesLaws.{reported}
 use Rattle.listing.proofs.list.Statement.{statement}
 use Rattle.listing.proofs.list.Tie as tie

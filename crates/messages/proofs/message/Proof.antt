@@ -5,7 +5,7 @@ use native.Mathlib.Omega.{arith}
 use types.Run.{miss}
 use borrow.Author.Tests.{not-true, not-false}
 use Rattle.wat.specs.Messages.{Tells}
-use Rattle.messages.proofs.BufferLaws.{put-length}
+use Rattle.buffers.proofs.AddedLaws.{added-length}
 use Rattle.messages.proofs.AnswerLaws.{untold, formatted-length, cut, delivered}
 use Rattle.messages.proofs.message.Statement.{statement}
 use Rattle.messages.proofs.message.Tie as tie
@@ -43,7 +43,7 @@ append-requires : tie.Need-append-requires
 append-requires c κs = omega (arith, formatted-length (c .before .before .before .before .fmt .ensures), c .before .before .if2 .left)
 
 same-length : tie.Need-same-length
-same-length c = put-length (c .before .before .append .ensures)
+same-length c = added-length (c .before .before .append .ensures)
 
 returns-4 : tie.Need-returns-4
 returns-4 c =

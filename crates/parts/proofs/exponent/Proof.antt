@@ -4,7 +4,7 @@ use native.Mathlib.Omega.{arith}
 use borrow.Author.Needs.{needs}
 use lib.ListN.{length}
 use lib.Seq.{slice}
-use Rattle.wat.specs.Values.{Parts}
+use Rattle.values.specs.Values.{Parts}
 use Rattle.parts.specs.Handing.{Left}
 use Rattle.parts.proofs.PartLaws.{sign-before, fraction-past, exponent-absent, exponent-handed}
 use Rattle.parts.proofs.exponent.Statement.{statement}
@@ -32,7 +32,7 @@ end-of-requires c κs = tt
 returns : tie.Need-returns
 returns c =
     let s = c .before .before .before .before .before .before in
-    λ x d. exponent-absent (s .pre) x (s .args .copied) (ends (c .before) x) (c .if1 .taken)
+    λ x d. exponent-absent (s .pre) x (s .args .underscores) (ends (c .before) x) (c .if1 .taken)
 
 -- a mark is there
 marked : (c : tie.Else1)
@@ -77,7 +77,7 @@ returns-2 c =
     λ x d.
     let l = ends (c .before .before .before .before .before .before .before) x in
     let w = l .within in
-    exponent-handed (s .pre) x (s .args .copied) l (omega arith) (c .before .before .before .before .before .sign-at .ensures) (p .same) (p .within)
+    exponent-handed (s .pre) x (s .args .underscores) l (omega arith) (c .before .before .before .before .before .sign-at .ensures) (p .same) (p .within)
     (c .before .before .hand .ensures) d
 
 pub exponent-spec : {M : Type 1} → statement M

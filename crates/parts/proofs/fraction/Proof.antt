@@ -2,7 +2,7 @@
 use native.Mathlib.Omega.{arith}
 use borrow.Author.Needs.{needs}
 use lib.Seq.{slice}
-use Rattle.wat.specs.Values.{Parts}
+use Rattle.values.specs.Values.{Parts}
 use Rattle.parts.specs.Handing.{Left}
 use Rattle.parts.proofs.PartLaws.{fraction-past, fraction-order, fraction-absent, fraction-handed}
 use Rattle.parts.proofs.fraction.Statement.{statement}
@@ -35,7 +35,7 @@ sub-if1 c =
 returns : tie.Need-returns
 returns c =
     let s = c .before .before .before .before .before .before in
-    λ x d. fraction-absent (s .pre) x (s .args .copied) (c .before .before .before .past-whole .ensures x) (ends (c .before) x) (omega arith)
+    λ x d. fraction-absent (s .pre) x (s .args .underscores) (c .before .before .before .past-whole .ensures x) (ends (c .before) x) (omega arith)
 
 add-hand : tie.Need-add-hand
 add-hand c = omega arith
@@ -54,7 +54,7 @@ returns-2 : tie.Need-returns-2
 returns-2 c =
     let s = c .before .before .before .before .before .before .before .before .before .before in
     λ x d.
-    fraction-handed (s .pre) x (s .args .copied) (c .before .before .before .before .before .before .before .past-whole .ensures x)
+    fraction-handed (s .pre) x (s .args .underscores) (c .before .before .before .before .before .before .before .past-whole .ensures x)
     (ends (c .before .before .before .before .before) x) (omega arith) (c .before .before .hand .ensures) d
 
 pub fraction-spec : {M : Type 1} → statement M

@@ -3,7 +3,6 @@ use Prim.Native.Nat.{_+_}
 use mathlib.Core.Path.{refl}
 use native.Mathlib.Omega.{arith}
 use borrow.Author.Needs.{needs}
-use Rattle.wat.proofs.OneValue.{number-made}
 use Rattle.parts.proofs.PartLaws.{payload-at, payload-handed}
 use Rattle.parts.proofs.payload.Statement.{statement}
 use Rattle.parts.proofs.payload.Tie as tie
@@ -17,9 +16,9 @@ add-from c = omega arith
 hand-requires : tie.Need-hand-requires
 hand-requires c κs =
     let s = c .before .before .before .before in
-    let m = number-made (s .pre .is .2) .0 in
+    let m = s .pre .is in
     let p = c .before .past-sign in
-    let l = payload-at (s .pre) (m .u) (m .s) (m .signed) (m .is) (p .result) (p .result + 6) (p .ensures .same) (p .ensures .within) refl in
+    let l = payload-at (s .pre) (m .1) (m .2) (m .3) (m .4) (p .result) (p .result + 6) (p .ensures .same) (p .ensures .within) refl in
     (l .within, s .pre .fits, omega arith)
 
 same-length : tie.Need-same-length

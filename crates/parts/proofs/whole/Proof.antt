@@ -1,8 +1,10 @@
 -- `parts::whole` meets its contract: the digits are where the scan finds them. Assumes nothing.
+use mathlib.Core.Path.{ap}
+use mathlib.Core.Bool.{Bool, _||_}
 use mathlib.Core.List.{_++_}
 use borrow.Author.Needs.{needs}
 use lib.Seq.{slice}
-use Rattle.wat.specs.Values.{Parts}
+use Rattle.values.specs.Values.{Parts}
 use Rattle.parts.specs.Handing.{Left}
 use Rattle.parts.proofs.PartLaws.{whole-passed, whole-fits, whole-handed}
 use Rattle.parts.proofs.whole.Statement.{statement}
@@ -44,9 +46,9 @@ returns : tie.Need-returns
 returns c =
     let s = c .before .before .before .before .before .before .before .before .before .before in
     λ x d.
-    whole-handed (s .pre) x (s .args .copied) (c .before .before .before .before .before .before .before .sign-at .ensures)
+    whole-handed (s .pre) x (s .args .hex || s .args .underscores) (c .before .before .before .before .before .before .before .sign-at .ensures)
     (c .before .before .before .before .before .before .past-prefix .ensures x) (ends (c .before .before .before .before) x)
-    (c .before .before .hand .ensures) d
+    (c .before .before .hand .ensures) (ap (λ (b : Bool). s .args .hex || b) d)
 
 pub whole-spec : {M : Type 1} → statement M
 whole-spec =

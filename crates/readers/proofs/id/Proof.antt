@@ -13,8 +13,11 @@ enum-known-refusal c = search needs
 enum-told : tie.Need-enum-told
 enum-told c = search needs
 
+cast-len : tie.Need-cast-len
+cast-len c = search needs
+
 name-requires : tie.Need-name-requires
-name-requires c κs = name-sigiled id-naming (taken-there (c .before .before .before .taken .ensures) (c .before .enum-told .given .1))
+name-requires c κs = name-sigiled id-naming (taken-there (c .before .before .before .before .taken .ensures) (c .before .before .enum-told .given .1))
 
 returns : tie.Need-returns
 returns c = taken-refused _ _ (id-naming .only) (c .before .before .before .taken .ensures) (c .before .refusal .given .1)
@@ -24,8 +27,8 @@ same-length c = search needs
 
 returns-2 : tie.Need-returns-2
 returns-2 c =
-    let k = c .before .before .before .before .before .before in
-    name-reads id-naming (taken-there (k .taken .ensures) (c .before .before .before .before .enum-told .given .1)) (c .before .before .name .ensures)
+    let k = c .before .before .before .before .before .before .before in
+    name-reads id-naming (taken-there (k .taken .ensures) (c .before .before .before .before .before .enum-told .given .1)) (c .before .before .name .ensures)
 
 pub id-spec : {M : Type 1} → statement M
 id-spec =
@@ -34,6 +37,7 @@ id-spec =
     taken-requires
     enum-known-refusal
     enum-told
+    cast-len
     name-requires
     returns
     same-length

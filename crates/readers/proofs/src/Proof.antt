@@ -1,7 +1,7 @@
 -- A refusal is passed on; else the bytes are the token's own. Assumes nothing.
 use mathlib.Core.Path.{subst}
-use Rattle.wat.specs.Reading.{Read}
-use Rattle.readers.specs.Here.{Here}
+use Rattle.values.specs.Reading.{Read}
+use Rattle.presence.specs.Here.{Here}
 use Rattle.readers.proofs.ReadLaws.{src-reads}
 use borrow.Author.Needs.{needs}
 use Rattle.readers.proofs.src.Statement.{statement}

@@ -34,14 +34,8 @@ slice-aggregate-list c = sym (length-take-le (c .before .before .before .before 
 list-requires : tie.Need-list-requires
 list-requires c κs = search needs
 
-stop-agrees-requires : tie.Need-stop-agrees-requires
-stop-agrees-requires c κs = search needs
-
-number-at-requires-3 : tie.Need-number-at-requires-3
-number-at-requires-3 c κs = search needs
-
-number-at-requires-4 : tie.Need-number-at-requires-4
-number-at-requires-4 c κs = search needs
+listed-agrees-requires : tie.Need-listed-agrees-requires
+listed-agrees-requires c κs = search needs
 
 bytes-agree-requires : tie.Need-bytes-agree-requires
 bytes-agree-requires c κs = search needs
@@ -62,8 +56,6 @@ list-agrees-spec =
     array-borrow-prefix-list
     slice-aggregate-list
     list-requires
-    stop-agrees-requires
-    number-at-requires-3
-    number-at-requires-4
+    listed-agrees-requires
     bytes-agree-requires
     returns-2)

@@ -25,35 +25,29 @@ number-at-requires-2 c κs = search needs
 number-at-requires-3 : tie.Need-number-at-requires-3
 number-at-requires-3 c κs = search needs
 
+array-read-reading-words : tie.Need-array-read-reading-words
+array-read-reading-words c = search needs
+
 shared-slice-read-wide-2 : tie.Need-shared-slice-read-wide-2
 shared-slice-read-wide-2 c = search needs
 
 wide-requires-2 : tie.Need-wide-requires-2
 wide-requires-2 c κs = search needs
 
+token-of-requires : tie.Need-token-of-requires
+token-of-requires c κs = search needs
+
 array-borrow-prefix-buffer : tie.Need-array-borrow-prefix-buffer
 array-borrow-prefix-buffer c = search needs
 
-slice-aggregate-thallusweb-read : tie.Need-slice-aggregate-thallusweb-read
-slice-aggregate-thallusweb-read c = sym (length-take-le (c .before .before .before .before .before .before .before .before .wide .result) (replicate 64 238) (omega arith))
+slice-aggregate-read : tie.Need-slice-aggregate-read
+slice-aggregate-read c = sym (length-take-le (c .before .before .before .before .before .before .before .before .wide .result) (replicate 64 238) (omega arith))
 
-thallusweb-read-requires : tie.Need-thallusweb-read-requires
-thallusweb-read-requires c κs = search needs
+read-requires : tie.Need-read-requires
+read-requires c κs = search needs
 
-array-read-agrees : tie.Need-array-read-agrees
-array-read-agrees c = search needs
-
-array-read-agrees-2 : tie.Need-array-read-agrees-2
-array-read-agrees-2 c = search needs
-
-array-read-agrees-3 : tie.Need-array-read-agrees-3
-array-read-agrees-3 c = search needs
-
-array-read-agrees-4 : tie.Need-array-read-agrees-4
-array-read-agrees-4 c = search needs
-
-array-read-agrees-5 : tie.Need-array-read-agrees-5
-array-read-agrees-5 c = search needs
+reading-words-requires : tie.Need-reading-words-requires
+reading-words-requires c κs = search needs
 
 agrees-requires : tie.Need-agrees-requires
 agrees-requires c κs = search needs
@@ -74,16 +68,14 @@ read-agrees-spec =
     number-at-requires
     number-at-requires-2
     number-at-requires-3
+    array-read-reading-words
     shared-slice-read-wide-2
     wide-requires-2
+    token-of-requires
     array-borrow-prefix-buffer
-    slice-aggregate-thallusweb-read
-    thallusweb-read-requires
-    array-read-agrees
-    array-read-agrees-2
-    array-read-agrees-3
-    array-read-agrees-4
-    array-read-agrees-5
+    slice-aggregate-read
+    read-requires
+    reading-words-requires
     agrees-requires
     bytes-agree-requires
     returns-2)

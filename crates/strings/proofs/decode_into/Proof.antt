@@ -7,7 +7,7 @@ use borrow.Author.Needs.{needs}
 use lib.ListN.{length, drop, set}
 use Rattle.wat.specs.Settings.{lenient}
 use Rattle.wat.specs.StringModel.{encode, read}
-use Rattle.utf8.proofs.PutLaws.{put-one}
+use Rattle.buffers.proofs.PutLaws.{put-one}
 use Rattle.elements.specs.Elements.{Element}
 use Rattle.elements.proofs.ElementLaws.{says-byte, says-char, says-quote, says-refused}
 use Rattle.strings.proofs.CopyLaws.{never-refused, Written, written-none, room-raws, room-element, written-raws, written-element, written-quote}

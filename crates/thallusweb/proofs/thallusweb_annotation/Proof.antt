@@ -1,6 +1,6 @@
 -- `thallusweb_annotation` keeps its promise: the words are those of the answer. Assumes nothing.
-use borrow.Author.Needs.{needs}
 use Rattle.thallusweb.proofs.WordLaws.{annotated-words}
+use borrow.Author.Needs.{needs}
 use Rattle.thallusweb.proofs.thallusweb_annotation.Statement.{statement}
 use Rattle.thallusweb.proofs.thallusweb_annotation.Tie as tie
 
@@ -11,7 +11,7 @@ found-words-requires : tie.Need-found-words-requires
 found-words-requires c κs = search needs
 
 returns : tie.Need-returns
-returns c = annotated-words (c .before .annotation .ensures) (c .found-words .ensures)
+returns c = annotated-words (c .before .annotation .result) (c .before .annotation .ensures) (c .found-words .ensures)
 
 pub thallusweb-annotation-spec : {M : Type 1} → statement M
 thallusweb-annotation-spec = tie.close (tie.spec annotation-requires found-words-requires returns)

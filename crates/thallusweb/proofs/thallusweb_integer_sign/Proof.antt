@@ -1,26 +1,14 @@
 -- `thallusweb_integer_sign` keeps its promise: the words are those of the sign. Assumes nothing.
-use Rattle.thallusweb.proofs.ReadLaws.{integer-words, unnamed, no-integer-words}
+use Rattle.thallusweb.proofs.WordLaws.{integer-words}
 use borrow.Author.Needs.{needs}
 use Rattle.thallusweb.proofs.thallusweb_integer_sign.Statement.{statement}
 use Rattle.thallusweb.proofs.thallusweb_integer_sign.Tie as tie
 
-element-copy-out-offset : tie.Need-element-copy-out-offset
-element-copy-out-offset c = search needs
-
-element-copy-out-token-of : tie.Need-element-copy-out-token-of
-element-copy-out-token-of c = search needs
-
-element-copy-out-token-of-2 : tie.Need-element-copy-out-token-of-2
-element-copy-out-token-of-2 c = search needs
-
-element-copy-out-token-of-3 : tie.Need-element-copy-out-token-of-3
-element-copy-out-token-of-3 c = search needs
+element-copy-out-integer-sign-words : tie.Need-element-copy-out-integer-sign-words
+element-copy-out-integer-sign-words c = search needs
 
 token-of-requires : tie.Need-token-of-requires
 token-of-requires c κs = search needs
-
-enum-known-t : tie.Need-enum-known-t
-enum-known-t c = search needs
 
 integer-sign-requires : tie.Need-integer-sign-requires
 integer-sign-requires c κs = search needs
@@ -28,35 +16,15 @@ integer-sign-requires c κs = search needs
 integer-sign-words-requires : tie.Need-integer-sign-words-requires
 integer-sign-words-requires c κs = search needs
 
-enum-told : tie.Need-enum-told
-enum-told c = search needs
-
-nowhere-requires : tie.Need-nowhere-requires
-nowhere-requires c κs = search needs
-
-barred-words-requires : tie.Need-barred-words-requires
-barred-words-requires c κs = search needs
-
 returns : tie.Need-returns
-returns c = integer-words (c .before .before .before .before .before .token-of .ensures) (c .before .integer-sign .result) (c .before .before .before .t .given .1) (c .before .integer-sign .ensures) (c .integer-sign-words .ensures)
-
-returns-2 : tie.Need-returns-2
-returns-2 c = no-integer-words (unnamed (c .before .before .before .before .token-of .ensures) (c .before .before .enum-told .given .1) (c .before .nowhere .ensures)) (c .barred-words .ensures)
+returns c = integer-words (c .before .integer-sign .result) (c .before .before .token-of .ensures) (c .before .integer-sign .ensures) (c .integer-sign-words .ensures)
 
 pub thallusweb-integer-sign-spec : {M : Type 1} → statement M
 thallusweb-integer-sign-spec =
     tie.close
     (tie.spec
-    element-copy-out-offset
-    element-copy-out-token-of
-    element-copy-out-token-of-2
-    element-copy-out-token-of-3
+    element-copy-out-integer-sign-words
     token-of-requires
-    enum-known-t
     integer-sign-requires
     integer-sign-words-requires
-    enum-told
-    nowhere-requires
-    barred-words-requires
-    returns
-    returns-2)
+    returns)

@@ -5,9 +5,9 @@ use mathlib.Core.Path.{sym, ap, _∙_}
 use native.Mathlib.Omega.{arith}
 use lib.ListN.{length, drop, length-drop}
 use borrow.Author.Needs.{needs}
-use Rattle.utf8.specs.Fronts.{frontOf}
+use Rattle.chars.specs.Fronts.{frontOf}
 use Rattle.utf8.specs.Following.{Resumes}
-use Rattle.utf8.proofs.DecodeLaws.{front-char}
+use Rattle.chars.proofs.DecodeLaws.{front-char}
 use Rattle.utf8.proofs.ScanLaws.{scan-whole, scan-ascii, scan-wrong, scan-cut, scan-end, says-of-model}
 use Rattle.utf8.proofs.check.Statement.{statement}
 use Rattle.utf8.proofs.check.Tie as tie

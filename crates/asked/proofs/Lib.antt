@@ -1,0 +1,2 @@
+mod AskedLaws
+pub mod OneAsked

@@ -1,0 +1,4 @@
+pub mod DecodeLaws
+mod BoundaryLaws
+mod ScalarLaws
+mod FollowLaws

@@ -1,0 +1,12 @@
+// The place counter, lent and changed by the call, which `thallusweb` passes on.
+ghost use Rattle.wat.specs.Places.{Moves};
+use wat::Place;
+
+// The counter moves over the bytes of a token; or the answer is false, which is 35, and it stays.
+pub fn move_over(p: &mut Place, w: &[u8]) -> bool
+    ensures { λ r. ⌜ Moves (now (p .entry)) (now (w .entry)) (record { ok = r; place = now (p .exit) }) ⌝ }
+{
+    let moved = place::move_over(*p, w);
+    *p = moved.place;
+    moved.ok
+}

@@ -1,0 +1,3 @@
+mod DecimalLaws
+pub mod WritingLaws
+pub mod RecordLaws

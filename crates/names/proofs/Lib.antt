@@ -1,0 +1,4 @@
+pub mod HandLaws
+mod PlainLaws
+mod QuotedLaws
+mod NameLaws

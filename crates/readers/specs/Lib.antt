@@ -1,2 +1,0 @@
-pub mod Here
-pub mod Names

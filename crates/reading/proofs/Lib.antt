@@ -1,0 +1,3 @@
+mod NumberedLaws
+pub mod NowhereLaws
+pub mod OneReader

@@ -1,0 +1,31 @@
+// The second call of the readers: the part that a first call named.
+
+ghost use mathlib.Core.Path.{_≡_};
+ghost use Rattle.values.specs.Reading.{cut, second};
+use wat::Reading;
+
+// The part of the text or of the buffer that a first call named. It takes any answer, and gives an empty part where there is none such.
+pub fn part<'a>(text: &'a [u8], buffer: &'a [u8], reading: Reading) -> &'a [u8]
+    ensures { λ r. ⌜ now r ≡ second (now (text .entry)) (now (buffer .entry)) reading ⌝ }
+{
+    match reading {
+        Reading::Text { start, len } => sub(text, start, len),
+        Reading::Buffer { start, len } => sub(buffer, start, len),
+        Reading::Refused(_) => &text[0..0],
+        Reading::Absent => &text[0..0],
+    }
+}
+
+// So many bytes from a start on; none where there are not so many.
+fn sub<'a>(s: &'a [u8], start: usize, len: usize) -> &'a [u8]
+    ensures { λ r. ⌜ now r ≡ cut (now (s .entry)) start len ⌝ }
+{
+    if s.len() < start {
+        return &s[0..0];
+    }
+    if s.len() - start < len {
+        return &s[0..0];
+    }
+    let end = start + len;
+    &s[start..end]
+}

@@ -1,0 +1,3 @@
+pub mod HexLaws
+pub mod CharLaws
+mod LeadLaws

@@ -1,0 +1,2 @@
+pub mod Details
+pub mod Spelling

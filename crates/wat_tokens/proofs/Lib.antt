@@ -1,4 +1,0 @@
-mod DecimalLaws
-mod WritingLaws
-mod RecordLaws
-pub mod OutputLaws
