@@ -1,10 +1,16 @@
-/* Every call on large texts, the first of them as large as can be and nested as deep, in a thread with 16 KiB of stack, the least that the system gives: it ends by a signal if one needs more. */
+/* Every call on large texts, the first of them as large as can be and nested as deep, on a stack of 16 KiB with a page below it that
+ * cannot be touched: it ends by a signal if a call needs more. */
+#define _GNU_SOURCE
 #include "thallusweb.h"
 
-#include <pthread.h>
 #include <stdio.h>
 #include <stdlib.h>
 #include <string.h>
+#include <sys/mman.h>
+#include <ucontext.h>
+#include <unistd.h>
+
+#define STACK 16384
 
 static uint8_t *text, *buffer;
 static size_t most = THALLUSWEB_MAX_TEXT;
@@ -33,7 +39,7 @@ static void ask(void) {
     thallusweb_move(place, text, most);
 }
 
-static void *run(void *unused) {
+static void run(void) {
     const char *pieces[] = {"(;", "\"", " ", ";;a", "0x1_", "1", "$\"\\u{41}", "\\", "\"\\ff", "(;;)", "@", "a \"\\00\" "};
     for (size_t i = 0; i < sizeof pieces / sizeof *pieces; i++) {
         repeat(pieces[i]);
@@ -44,16 +50,24 @@ static void *run(void *unused) {
         ask();
         most = 1 << 20;
     }
-    return unused;
 }
 
 int main(void) {
+    static ucontext_t here, there;
+    size_t page = (size_t)sysconf(_SC_PAGESIZE);
     text = malloc(most);
     buffer = malloc(6 * most);
-    pthread_attr_t small;
-    pthread_t thread;
-    if (text == NULL || buffer == NULL || pthread_attr_init(&small) != 0 || pthread_attr_setstacksize(&small, 16384) != 0
-        || pthread_create(&thread, &small, run, NULL) != 0 || pthread_join(thread, NULL) != 0) {
+    uint8_t *area = mmap(NULL, page + STACK, PROT_READ | PROT_WRITE, MAP_PRIVATE | MAP_ANONYMOUS, -1, 0);
+    if (text == NULL || buffer == NULL || area == MAP_FAILED || mprotect(area, page, PROT_NONE) != 0 || getcontext(&there) != 0) {
+        perror("stack");
+        return 1;
+    }
+    there.uc_stack.ss_sp = area + page;
+    there.uc_stack.ss_size = STACK;
+    there.uc_link = &here;
+    makecontext(&there, run, 0);
+    if (swapcontext(&here, &there) != 0) {
+        perror("stack");
         return 1;
     }
     puts("16 KiB of stack suffice for every call");

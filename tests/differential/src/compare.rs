@@ -19,6 +19,8 @@ pub struct Counts {
     pub signs: u64,
     pub messages: u64,
     pub moves: u64,
+    /// tokens and errors of the Rust bindings
+    pub items: u64,
     /// how often each refusal was the answer for one token or of a reader
     pub refusals: BTreeMap<u64, u64>,
 }
@@ -91,6 +93,24 @@ fn expected_listing(bytes: &[u8], flag: bool, start: usize, budget: usize, list:
 }
 
 impl Counts {
+    pub fn add(&mut self, other: Counts) {
+        let Counts { texts, tokens, annotations, listings, readings, parts, signs, messages, moves, items, refusals } =
+            other;
+        self.texts += texts;
+        self.tokens += tokens;
+        self.annotations += annotations;
+        self.listings += listings;
+        self.readings += readings;
+        self.parts += parts;
+        self.signs += signs;
+        self.messages += messages;
+        self.moves += moves;
+        self.items += items;
+        for (number, count) in refusals {
+            *self.refusals.entry(number).or_default() += count;
+        }
+    }
+
     /// Compares everything that can be asked of a short text, and a few listings of it.
     pub fn text(&mut self, bytes: &[u8], chance: &mut Texts) {
         self.texts += 1;

@@ -8,6 +8,8 @@ mod reading;
 use compare::Counts;
 use oracle::texts::Texts;
 use std::process::ExitCode;
+use std::sync::atomic::{AtomicU64, Ordering};
+use std::thread;
 use std::time::Instant;
 
 const HELP: &str = "\
@@ -25,6 +27,10 @@ const TELLING: [&str; 30] = [
     "(", ")", ";", "\"", "\\", "u", "{", "}", "0", "1", "x", "a", "f", "d", "8", "e", ".", "_", "+", "-", "n", "$",
     "@", ",", " ", "\n", "\r", "é", "\u{202e}", "\u{1}",
 ];
+
+/// The texts are shared out in so many parts, each with random numbers of its own, and the threads take one after the other: what is compared
+/// does not depend on the machine.
+const SHARES: u64 = 32;
 
 struct Options {
     bytes: usize,
@@ -77,6 +83,33 @@ fn limits(counts: &mut Counts) {
     counts.listing(&text, false, 0, usize::MAX, 12);
 }
 
+/// Compares the texts of one share: every `SHARES`th of those that are listed, and its part of the random ones.
+fn share(options: &Options, which: u64) -> Counts {
+    let mut counts = Counts::default();
+    let mut chance = Texts::new(options.seed.wrapping_mul(SHARES).wrapping_add(which));
+    let mut turn = 0;
+    let mut each = |text: &[u8], counts: &mut Counts, chance: &mut Texts| {
+        if turn % SHARES == which {
+            counts.text(text, chance);
+        }
+        turn += 1;
+    };
+    let all: Vec<[u8; 1]> = (0..=255).map(|byte| [byte]).collect();
+    let all: Vec<&[u8]> = all.iter().map(|byte| &byte[..]).collect();
+    every(&all, options.bytes, &mut Vec::new(), &mut |text| each(text, &mut counts, &mut chance));
+    let telling = TELLING.map(str::as_bytes);
+    every(&telling, options.symbols, &mut Vec::new(), &mut |text| each(text, &mut counts, &mut chance));
+    for _ in (which..options.random).step_by(SHARES as usize) {
+        let limit = [8, 24, 60, 200][chance.below(4)];
+        let text = chance.text(limit);
+        counts.text(text.as_bytes(), &mut chance);
+        counts.items += bindings::compare(&text, false) + bindings::compare(&text, true);
+        let bytes = chance.bytes(limit);
+        counts.text(&bytes, &mut chance);
+    }
+    counts
+}
+
 fn main() -> ExitCode {
     let Some(options) = options() else {
         eprint!("{HELP}");
@@ -84,23 +117,27 @@ fn main() -> ExitCode {
     };
     let began = Instant::now();
     let mut counts = Counts::default();
-    let mut items = 0;
-    let mut chance = Texts::new(options.seed);
     limits(&mut counts);
-    let all: Vec<[u8; 1]> = (0..=255).map(|byte| [byte]).collect();
-    let all: Vec<&[u8]> = all.iter().map(|byte| &byte[..]).collect();
-    every(&all, options.bytes, &mut Vec::new(), &mut |text| counts.text(text, &mut chance));
-    let telling = TELLING.map(str::as_bytes);
-    every(&telling, options.symbols, &mut Vec::new(), &mut |text| counts.text(text, &mut chance));
-    for _ in 0..options.random {
-        let limit = [8, 24, 60, 200][chance.below(4)];
-        let text = chance.text(limit);
-        counts.text(text.as_bytes(), &mut chance);
-        items += bindings::compare(&text, false) + bindings::compare(&text, true);
-        let bytes = chance.bytes(limit);
-        counts.text(&bytes, &mut chance);
-    }
-    let Counts { texts, tokens, annotations, listings, readings, parts, signs, messages, moves, refusals } = counts;
+    let next = AtomicU64::new(0);
+    let work = || {
+        let mut counts = Counts::default();
+        loop {
+            let which = next.fetch_add(1, Ordering::Relaxed);
+            if which >= SHARES {
+                return counts;
+            }
+            counts.add(share(&options, which));
+        }
+    };
+    thread::scope(|scope| {
+        let threads = thread::available_parallelism().map_or(1, usize::from);
+        let workers: Vec<_> = (0..threads).map(|_| scope.spawn(work)).collect();
+        for worker in workers {
+            counts.add(worker.join().expect("a thread that met no difference"));
+        }
+    });
+    let Counts { texts, tokens, annotations, listings, readings, parts, signs, messages, moves, items, refusals } =
+        counts;
     println!(
         "{texts} texts: {tokens} tokens, {annotations} annotations, {listings} listings, {readings} readings, {parts} parts, {signs} signs, \
          {messages} messages and {moves} moves of the place counter agree; {:.0} s",

@@ -96,12 +96,24 @@ pub fn tokens(program: &str, texts: usize, seed: u64) -> io::Result<String> {
         let piece = [1, 7, 4_096, 40_000][chance.below(4)];
         inputs.push((input, piece));
     }
-    let mut lines = 0;
-    for (input, piece) in &inputs {
-        let (ours, rust) = (printed(program, input, *piece)?, listed(input, false));
-        assert!(ours == rust.as_bytes(), "the outputs differ for {:?}", String::from_utf8_lossy(input));
-        lines += rust.lines().count();
-    }
+    let compare = |inputs: &[(Vec<u8>, usize)]| -> io::Result<usize> {
+        let mut lines = 0;
+        for (input, piece) in inputs {
+            let (ours, rust) = (printed(program, input, *piece)?, listed(input, false));
+            assert!(ours == rust.as_bytes(), "the outputs differ for {:?}", String::from_utf8_lossy(input));
+            lines += rust.lines().count();
+        }
+        Ok(lines)
+    };
+    let threads = thread::available_parallelism().map_or(1, usize::from);
+    let lines = thread::scope(|scope| {
+        let workers: Vec<_> =
+            inputs.chunks(inputs.len().div_ceil(threads)).map(|part| scope.spawn(|| compare(part))).collect();
+        workers
+            .into_iter()
+            .map(|worker| worker.join().expect("a thread that met no difference"))
+            .sum::<io::Result<usize>>()
+    })?;
     Ok(format!("wat-tokens: {} inputs, {lines} lines agree\n", inputs.len()))
 }
 

@@ -1,4 +1,4 @@
-//! Answers of the Rust, recorded for the program of crates/replay, whose first comment has the layout of a row.
+//! Answers of the Rust, recorded for the program of crates/replay; the first comment of crates/rows has the layout of a row.
 
 use oracle::listing::Stop;
 use oracle::readers::Token;
