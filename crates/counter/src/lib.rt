@@ -1,6 +1,14 @@
 // The place counter, lent and changed by the call, which `thallusweb` passes on.
-ghost use Rattle.wat.specs.Places.{Moves};
+ghost use mathlib.Core.Path.{_≡_};
+ghost use Rattle.wat.specs.Places.{new, Moves};
 use wat::Place;
+
+// Where a text begins.
+pub fn new_place() -> Place
+    ensures { λ r. ⌜ r ≡ new ⌝ }
+{
+    Place { line: 1, column: 1 }
+}
 
 // The counter moves over the bytes of a token; or the answer is false, which is 35, and it stays.
 pub fn move_over(p: &mut Place, w: &[u8]) -> bool

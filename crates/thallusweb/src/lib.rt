@@ -4,6 +4,7 @@ ghost use mathlib.Core.Path.{_≡_};
 ghost use Rattle.spots.specs.Spots.{partOf, MovedWords};
 ghost use Rattle.thallusweb.specs.Promises.{Utf8Checked, ParsedWords, AnnotatedWords, ListedWords, ReadWords, IntegerSignWords, FloatSignWords, MessageWords};
 pub use counter::move_over;
+pub use counter::new_place;
 pub use held::Lexer;
 
 // Whether the text is UTF-8: 0, or 2 with valid-up-to and error length.

@@ -18,7 +18,7 @@ differential: Thallusweb against the Rust original
   differential [--bytes N] [--symbols N] [--random N] [--seed S]
       --bytes N     every byte string of up to N bytes (default 2)
       --symbols N   every text of up to N symbols of a telling alphabet (default 4)
-      --random N    so many random texts, whole, cut and damaged, and random byte strings (default 200000)
+      --random N    so many random texts, whole, cut and damaged, and random byte strings (default 100000)
       --seed S      of the random texts (default 1)
 ";
 
@@ -40,7 +40,7 @@ struct Options {
 }
 
 fn options() -> Option<Options> {
-    let mut options = Options { bytes: 2, symbols: 4, random: 200_000, seed: 1 };
+    let mut options = Options { bytes: 2, symbols: 4, random: 100_000, seed: 1 };
     let mut words = std::env::args().skip(1);
     while let Some(word) = words.next() {
         let number: u64 = words.next()?.parse().ok()?;
