@@ -1,8 +1,8 @@
 /* Thallusweb: a lexer for the WebAssembly text format with one proved reading.
  *
- * Every call answers for every text, position, flag and size; none needs anything of its arguments but that the pointers are good
- * for the lengths given (a length of 0 still takes a pointer that is not null). Texts are bytes; `allow_confusing` lets the nine
- * characters of document 01 that can make a page show another text than is there stand raw in strings and comments.
+ * Every call answers for every text, position, settings word and size; none needs anything of its arguments but that the pointers are
+ * good for the lengths given (a length of 0 still takes a pointer that is not null). Texts are bytes; THALLUSWEB_ALLOW_CONFUSING lets the
+ * nine characters that can make a page show another text than is there stand raw in strings and comments.
  *
  * An answer goes into an array of 64-bit words, all of which are written. A refusal is its number, its place, and up to two values:
  *
@@ -14,7 +14,7 @@
  *    4  position inside a character                   19  no Unicode scalar value: the number
  *   10  block comment that is never closed            20  an underscore that no digit follows
  *   11  unexpected character: the character           21  confusing character: the character
- *   12  character that no string holds raw: it        22  name is not UTF-8: as 2, of the decoded name
+ *   12  control character in a string: it             22  name is not UTF-8: as 2, of the decoded name
  *   23  empty identifier                              32  the buffer is shorter than the copy
  *   24  empty annotation                              33  no room in the list for the next token
  *   30  no such token there                           34  no error has such a message
@@ -40,6 +40,10 @@ extern "C" {
 #define THALLUSWEB_RECORD 6
 #define THALLUSWEB_MESSAGE 64
 
+/* Settings: bits joined by |, 0 for none. Bits that are not defined here are ignored, and should be 0, since a later version may give them
+ * a meaning. */
+#define THALLUSWEB_ALLOW_CONFUSING 1
+
 /* Whether the text, of any length, is UTF-8. out: 0, 0, 0; or 2, valid-up-to, error length. */
 void thallusweb_utf8_check(const uint8_t *text, size_t len, uint64_t out[3]);
 
@@ -48,10 +52,10 @@ void thallusweb_utf8_check(const uint8_t *text, size_t len, uint64_t out[3]);
  *   refusal:  out[1] its number, out[2] its place, out[3] and out[4] its values
  * out[5] is the position afterwards: past the token; after 12 to 21 where lexing may go on; after 1 to 4, 10 and 11 the position given, where
  * the same call is refused again. */
-void thallusweb_parse(const uint8_t *text, size_t len, bool allow_confusing, size_t position, uint64_t out[6]);
+void thallusweb_parse(const uint8_t *text, size_t len, uint32_t settings, size_t position, uint64_t out[6]);
 
 /* The annotation at a position: the same five words. Nothing where no @ stands, past the end too. */
-void thallusweb_annotation(const uint8_t *text, size_t len, bool allow_confusing, size_t position, uint64_t out[5]);
+void thallusweb_annotation(const uint8_t *text, size_t len, uint32_t settings, size_t position, uint64_t out[5]);
 
 /* The tokens from `start` on, at most `budget` of them, as records of six bytes in `list`: the length in four and the kind in two, the
  * least byte first. Bytes of the list past the records stay as they were.
@@ -59,7 +63,7 @@ void thallusweb_annotation(const uint8_t *text, size_t len, bool allow_confusing
  *   refusal:  out[1] its number, out[2] its place, out[3] and out[4] its values
  * out[5] is how many tokens were handed out, out[6] the position: where the first token not handed out starts, or what
  * thallusweb_parse leaves there after an error. The text is checked once, however many tokens there are. */
-void thallusweb_list(const uint8_t *text, size_t len, bool allow_confusing, size_t start, size_t budget, uint8_t *list,
+void thallusweb_list(const uint8_t *text, size_t len, uint32_t settings, size_t start, size_t budget, uint8_t *list,
                      size_t list_len, uint64_t out[7]);
 
 /* Readers, by number. Digits come without underscores, without a + and without 0x; of a hexadecimal number they are its hexadecimal digits. */

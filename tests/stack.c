@@ -24,9 +24,9 @@ static void ask(void) {
     uint64_t out[7], part[3];
     uint32_t place[2] = {1, 1};
     thallusweb_utf8_check(text, most, out);
-    thallusweb_annotation(text, most, false, 0, out);
-    thallusweb_list(text, most, false, 0, SIZE_MAX, buffer, 6 * most, out);
-    thallusweb_parse(text, most, true, 0, out);
+    thallusweb_annotation(text, most, 0, 0, out);
+    thallusweb_list(text, most, 0, 0, SIZE_MAX, buffer, 6 * most, out);
+    thallusweb_parse(text, most, THALLUSWEB_ALLOW_CONFUSING, 0, out);
     uint64_t token[3] = {out[1], out[2], out[3]};
     for (uint64_t reader = 0; reader < 10; reader++) {
         thallusweb_read(text, most, reader, token, buffer, most, out);

@@ -73,7 +73,7 @@ int main(int argc, char **argv) {
     for (;;) {
         uint8_t list[THALLUSWEB_RECORD * CHUNK];
         uint64_t listed[7];
-        thallusweb_list(text, len, false, at, CHUNK, list, sizeof list, listed);
+        thallusweb_list(text, len, 0, at, CHUNK, list, sizeof list, listed);
         for (size_t i = 0; i < listed[5]; i++) {
             const uint8_t *record = list + THALLUSWEB_RECORD * i;
             uint64_t token_len = record[0] | record[1] << 8 | record[2] << 16 | (uint64_t)record[3] << 24;

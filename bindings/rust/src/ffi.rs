@@ -3,18 +3,12 @@
 mod c {
     unsafe extern "C" {
         pub fn thallusweb_utf8_check(text: *const u8, len: usize, out: *mut u64);
-        pub fn thallusweb_parse(text: *const u8, len: usize, allow_confusing: bool, position: usize, out: *mut u64);
-        pub fn thallusweb_annotation(
-            text: *const u8,
-            len: usize,
-            allow_confusing: bool,
-            position: usize,
-            out: *mut u64,
-        );
+        pub fn thallusweb_parse(text: *const u8, len: usize, settings: u32, position: usize, out: *mut u64);
+        pub fn thallusweb_annotation(text: *const u8, len: usize, settings: u32, position: usize, out: *mut u64);
         pub fn thallusweb_list(
             text: *const u8,
             len: usize,
-            allow_confusing: bool,
+            settings: u32,
             start: usize,
             budget: usize,
             list: *mut u8,
@@ -42,6 +36,9 @@ mod c {
     }
 }
 
+/// The bit of a settings word by which confusing characters are allowed.
+pub const ALLOW_CONFUSING: u32 = 1;
+
 /// A buffer that holds every message.
 pub const MESSAGE: usize = 64;
 
@@ -51,24 +48,22 @@ pub fn utf8_check(text: &[u8]) -> [u64; 3] {
     out
 }
 
-pub fn parse(text: &[u8], allow_confusing: bool, position: usize) -> [u64; 6] {
+pub fn parse(text: &[u8], settings: u32, position: usize) -> [u64; 6] {
     let mut out = [0; 6];
-    unsafe { c::thallusweb_parse(text.as_ptr(), text.len(), allow_confusing, position, out.as_mut_ptr()) };
+    unsafe { c::thallusweb_parse(text.as_ptr(), text.len(), settings, position, out.as_mut_ptr()) };
     out
 }
 
-pub fn annotation(text: &[u8], allow_confusing: bool, position: usize) -> [u64; 5] {
+pub fn annotation(text: &[u8], settings: u32, position: usize) -> [u64; 5] {
     let mut out = [0; 5];
-    unsafe { c::thallusweb_annotation(text.as_ptr(), text.len(), allow_confusing, position, out.as_mut_ptr()) };
+    unsafe { c::thallusweb_annotation(text.as_ptr(), text.len(), settings, position, out.as_mut_ptr()) };
     out
 }
 
-pub fn list(text: &[u8], allow_confusing: bool, start: usize, budget: usize, list: &mut [u8]) -> [u64; 7] {
+pub fn list(text: &[u8], settings: u32, start: usize, budget: usize, list: &mut [u8]) -> [u64; 7] {
     let mut out = [0; 7];
     let (at, room) = (list.as_mut_ptr(), list.len());
-    unsafe {
-        c::thallusweb_list(text.as_ptr(), text.len(), allow_confusing, start, budget, at, room, out.as_mut_ptr())
-    };
+    unsafe { c::thallusweb_list(text.as_ptr(), text.len(), settings, start, budget, at, room, out.as_mut_ptr()) };
     out
 }
 

@@ -1,7 +1,7 @@
 //! Lexer and tokens, under the names of `wast::lexer`.
 
 use crate::refusal::{Error, Refusal};
-use crate::{Place, ffi};
+use crate::{Place, Settings, ffi};
 use std::borrow::Cow;
 use std::fmt;
 
@@ -9,7 +9,7 @@ use std::fmt;
 #[derive(Clone, Copy, Debug)]
 pub struct Lexer<'a> {
     input: &'a str,
-    allow_confusing_unicode: bool,
+    settings: Settings,
 }
 
 /// A single token of a text.
@@ -272,7 +272,12 @@ impl<'a> Lexer<'a> {
 
     /// A lexer of a text, which refuses confusing characters.
     pub fn new(input: &str) -> Lexer<'_> {
-        Lexer { input, allow_confusing_unicode: false }
+        Lexer::with_settings(input, Settings::new())
+    }
+
+    /// A lexer of a text, with settings that [`Settings::new`] and its methods build.
+    pub fn with_settings(input: &str, settings: Settings) -> Lexer<'_> {
+        Lexer { input, settings }
     }
 
     /// A lexer of bytes, refused where they are too many or not UTF-8.
@@ -291,9 +296,14 @@ impl<'a> Lexer<'a> {
         self.input
     }
 
+    /// The settings.
+    pub fn settings(&self) -> Settings {
+        self.settings
+    }
+
     /// Whether the nine characters that turn the direction of text may stand raw in strings and comments.
     pub fn allow_confusing_unicode(&mut self, allow: bool) -> &mut Self {
-        self.allow_confusing_unicode = allow;
+        self.settings = self.settings.allow_confusing_unicode(allow);
         self
     }
 
@@ -309,7 +319,7 @@ impl<'a> Lexer<'a> {
     /// # Ok::<(), thallusweb::Error>(())
     /// ```
     pub fn parse(&self, position: &mut usize) -> Result<Option<Token>, Error> {
-        let [a, b, c, d, e, after] = ffi::parse(self.input.as_bytes(), self.allow_confusing_unicode, *position);
+        let [a, b, c, d, e, after] = ffi::parse(self.input.as_bytes(), self.settings.word(), *position);
         *position = after as usize;
         found([a, b, c, d, e])
     }
@@ -333,7 +343,7 @@ impl<'a> Lexer<'a> {
     /// ```
     pub fn list(&self, start: usize, budget: usize, list: &mut [u8]) -> Listed {
         let [why, number, place, first, second, count, position] =
-            ffi::list(self.input.as_bytes(), self.allow_confusing_unicode, start, budget, list);
+            ffi::list(self.input.as_bytes(), self.settings.word(), start, budget, list);
         let stop = match why {
             0 => Stop::End,
             1 => Stop::Budget,
@@ -345,7 +355,7 @@ impl<'a> Lexer<'a> {
 
     /// The annotation at a position, if an `@` stands there and begins one.
     pub fn annotation(&self, position: usize) -> Result<Option<Token>, Error> {
-        found(ffi::annotation(self.input.as_bytes(), self.allow_confusing_unicode, position))
+        found(ffi::annotation(self.input.as_bytes(), self.settings.word(), position))
     }
 
     /// The place of a position in the text: counts from the text's start, so that it is for error messages.

@@ -29,6 +29,8 @@
 //! * [`lexer::Token::src`], [`string`](lexer::Token::string), [`integer`](lexer::Token::integer) and [`float`](lexer::Token::float) have no
 //!   error to give, as in wast: of a token that is not there they give what is empty. [`lexer::Token::read`] says why.
 //! * [`Error`] has a [`Refusal`] and a place in bytes, and no excerpt; [`Place`] counts lines and columns.
+//! * [`Settings`] is a value that a builder makes and [`lexer::Lexer::with_settings`] takes, so that it can be a constant and serve many texts;
+//!   [`lexer::Lexer::allow_confusing_unicode`] is there as in wast.
 //! * [`lexer::Lexer::parse`] checks at each call that the whole text is UTF-8, which is fast but not free; [`lexer::Lexer::iter`] does so once
 //!   for thousands of tokens. The readers take just the token's own bytes, which is proved to give the same.
 //!
@@ -39,6 +41,8 @@ mod ffi;
 pub mod lexer;
 mod place;
 mod refusal;
+mod settings;
 
 pub use place::Place;
 pub use refusal::{Error, Refusal};
+pub use settings::Settings;

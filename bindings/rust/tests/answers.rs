@@ -2,7 +2,7 @@
 
 use std::borrow::Cow;
 use thallusweb::lexer::{Float, LexError, Lexer, Reader, SignToken, Token, TokenKind};
-use thallusweb::{Error, Place, Refusal};
+use thallusweb::{Error, Place, Refusal, Settings};
 
 fn one(text: &str) -> Token {
     Lexer::new(text).parse(&mut 0).unwrap().unwrap()
@@ -62,6 +62,26 @@ fn names() {
     assert_eq!((utf8.valid_up_to(), utf8.error_len()), (0, None));
     assert_eq!(error.message(), "malformed UTF-8 encoding of string-based id");
     assert_eq!(one("@").annotation("@").unwrap_err().message(), "empty annotation id");
+}
+
+#[test]
+fn settings() {
+    let allowing = Settings::new().allow_confusing_unicode(true);
+    assert_eq!((Settings::new().allows_confusing_unicode(), allowing.allows_confusing_unicode()), (false, true));
+    assert_eq!((Settings::default(), allowing.allow_confusing_unicode(false)), (Settings::new(), Settings::new()));
+    let text = "@\"\u{202e}\"";
+    let mut lexer = Lexer::new(text);
+    assert_eq!(lexer.settings(), Settings::new());
+    assert_eq!(lexer.allow_confusing_unicode(true).settings(), allowing);
+    assert_eq!(lexer.allow_confusing_unicode(false).settings(), Settings::new());
+    for (settings, allows) in [(Settings::new(), false), (allowing, true)] {
+        let lexer = Lexer::with_settings(text, settings);
+        assert_eq!(lexer.settings(), settings);
+        assert_eq!(lexer.parse(&mut 0).is_ok(), allows);
+        assert_eq!(lexer.annotation(0).is_ok(), allows);
+        assert_eq!(lexer.iter(0).all(|token| token.is_ok()), allows);
+        assert_eq!(lexer.list(0, 1, &mut [0; Lexer::RECORD]).count, usize::from(allows));
+    }
 }
 
 #[test]

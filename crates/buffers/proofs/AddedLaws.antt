@@ -31,12 +31,16 @@ added-then {d} {e} {f} {v} {w} {to} {m} {n} a b =
 pub added-one : (d : List ℕ) (to b : ℕ) → to < length d → Added d (set d to b) to (b ∷ []) (to + 1)
 added-one d to b h = record { put = laws.put-one d to b h; ends = refl }
 
-pub added-byte : {d e v : List ℕ} {to end : ℕ} (b : ℕ) → Added d e to v end → end < length d → Added d (set e end b) to (v ++ (b ∷ [])) (end + 1)
+pub added-byte :
+    {d e v : List ℕ} {to end : ℕ} (b : ℕ) → Added d e to v end → end < length d
+    → Added d (set e end b) to (v ++ (b ∷ [])) (end + 1)
 added-byte {d} {e} {v} {to} {end} b a h =
     record { put = laws.put-byte d e to v (a .put) end b (a .ends) h; ends = omega (arith, length-append v (b ∷ []), a .ends) }
 
 -- a part of s, and all of it, copied
-pub copied : (d e : List ℕ) (to : ℕ) (s : List ℕ) (from n : ℕ) → from + n ≤ length s → Put d e to (take n (drop from s)) → Added d e to (take n (drop from s)) (to + n)
+pub copied :
+    (d e : List ℕ) (to : ℕ) (s : List ℕ) (from n : ℕ) → from + n ≤ length s → Put d e to (take n (drop from s))
+    → Added d e to (take n (drop from s)) (to + n)
 copied d e to s from n h p =
     record { put = p; ends = omega (arith, length-take-le n (drop from s) (omega (arith, length-drop from s))) }
 

@@ -50,7 +50,8 @@ module _ (d : List ℕ) (to v : ℕ) where
   put-code-1 a room h p = stored (a ∷ []) (rw p (code-1 v h)) room
 
   pub put-code-2 :
-      (a b : ℕ) → to + 2 ≤ length d → 0x80 ≤ v → v < 0x800 → a ≡ 0xC0 + v / 0x40 → b ≡ 0x80 + v % 0x40 → Put d (set (set d to a) (to + 1) b) to (encode v)
+      (a b : ℕ) → to + 2 ≤ length d → 0x80 ≤ v → v < 0x800 → a ≡ 0xC0 + v / 0x40 → b ≡ 0x80 + v % 0x40
+      → Put d (set (set d to a) (to + 1) b) to (encode v)
   put-code-2 a b room h k p q = rw (add-one to) (stored (a ∷ b ∷ []) (rw (p, q) (code-2 v h k)) room)
 
   pub put-code-3 :
@@ -59,7 +60,8 @@ module _ (d : List ℕ) (to v : ℕ) where
   put-code-3 a b c room h k p q r = rw (add-one to, add-two to) (stored (a ∷ b ∷ c ∷ []) (rw (p, q, r) (code-3 v h k)) room)
 
   pub put-code-4 :
-      (a b c e : ℕ) → to + 4 ≤ length d → 0x10000 ≤ v → a ≡ 0xF0 + v / 0x40000 → b ≡ 0x80 + v / 0x1000 % 0x40 → c ≡ 0x80 + v / 0x40 % 0x40 → e ≡ 0x80 + v % 0x40
+      (a b c e : ℕ) → to + 4 ≤ length d → 0x10000 ≤ v → a ≡ 0xF0 + v / 0x40000 → b ≡ 0x80 + v / 0x1000 % 0x40
+      → c ≡ 0x80 + v / 0x40 % 0x40 → e ≡ 0x80 + v % 0x40
       → Put d (set (set (set (set d to a) (to + 1) b) (to + 2) c) (to + 3) e) to (encode v)
   put-code-4 a b c e room h p q r x =
       rw (add-one to, add-two to, add-three to) (stored (a ∷ b ∷ c ∷ e ∷ []) (rw (p, q, r, x) (code-4 v h)) room)

@@ -1,85 +1,103 @@
--- What the code decides and leaves in the buffers makes `Tells` true. Assumes nothing.
+-- What the code decides and leaves in the buffers is what the model answers. Assumes nothing.
 use Prim.Native.Nat.{ℕ, _≤_, _<_}
-use mathlib.Core.Path.{_≡_, refl, sym, ap, _∙_}
-use mathlib.Core.Bool.{Bool, true, false, _&&_}
+use mathlib.Core.Path.{_≡_, sym, ap, _∙_}
+use mathlib.Core.Bool.{true, false, _&&_, not}
 use mathlib.Core.List.{List, [], _++_}
 use native.Mathlib.Omega.{arith}
 use native.Mathlib.Nat.{zero-add}
+use lib.Dec.{eqb}
 use lib.ListN.{length, take, drop}
-use lib.Seq.{length-take-le}
-use Rattle.wat.specs.declared.{LexError.LexError, Refusal.Refusal}
-use Rattle.wat.specs.declared.LexError.the-variants.{DanglingBlockComment, Unexpected, InvalidStringElement, InvalidStringEscape, InvalidHexDigit, Expected, UnexpectedEof, NumberTooBig, InvalidUnicodeValue, LoneUnderscore, ConfusingUnicode, InvalidUtf8Id, EmptyId, EmptyAnnotation}
-use Rattle.wat.specs.declared.Refusal.the-variants.{Lexical, BufferTooShort, NoMessage}
-use Rattle.wat.specs.declared.Message.the-variants.{Refused, Written}
-use Rattle.wat.specs.{Bytes.between, Cases.errorNumber, Messages.Tells}
-use Rattle.wat.proofs.Scalars.{between-true}
-use Rattle.wat.proofs.Utf8Laws.{never}
+use borrow.Author.Tests.{lt-ltb, le-ltb, ne-eqb}
+use Rattle.wat.specs.declared.Refusal.the-variants.{BufferTooShort, NoMessage}
+use Rattle.messages.specs.declared.Told.the-variants.{Refused, Written}
+use Rattle.wat.specs.{Bytes.bytes, Bytes.between, Chars.isScalar, Chars.confusing}
+use Rattle.wat.proofs.Basics.{between-in, between-true}
 use Rattle.buffers.specs.Writing.{Added}
 use Rattle.buffers.proofs.PutLaws.{put-none}
-use Rattle.buffers.proofs.AddedLaws.{added-length, added-front, added-then}
-use Rattle.spelling.specs.Spelled.{lead}
-use Rattle.messages.specs.MessageModel.{rest, message, tellable}
-use Rattle.messages.specs.Formatting.{Formatted}
-use Rattle.messages.proofs.MessageLaws.{displays, has-message}
+use Rattle.buffers.proofs.AddedLaws.{added-front, added-same}
+use Rattle.messages.specs.Spelled.{hex, shown}
+use Rattle.messages.specs.MessageModel.{known, showable, tellable, rest, message, fitted, answer}
+use Rattle.messages.proofs.MessageLaws.{and-left}
 
--- `&&`, as the code decides it
-pub and-on : {a b r s : Bool} → r ≡ a → r ≡ true → s ≡ b → s ≡ a && b
-and-on p t q = rw (← p, t) q
+-- ---- what the rest of a message is, by the number
 
-pub and-off : {a r : Bool} (b : Bool) → r ≡ a → r ≡ false → r ≡ a && b
-and-off b p t = rw (← p, t)
+pub rest-character : (n a b : ℕ) → 11 ≤ n → n ≤ 14 → rest n a b ≡ shown a ++ bytes "'"
+unfolding rest
+rest-character n a b h k = rw (between-in 11 14 n h k, rest)
 
--- the rest of a message, as the error's case says it
-pub rest-written : {d e v : List ℕ} {at end : ℕ} {x y : LexError} → x ≡ y → rest y ≡ v → Added d e at v end → Added d e at (rest x) end
-rest-written q s a = rw (q, s) a
+pub rest-confusing : (n a b : ℕ) → n ≡ 21 → rest n a b ≡ shown a ++ bytes "'"
+unfolding between rest
+rest-confusing n a b q = rw q
 
-pub no-rest : {d : List ℕ} {at : ℕ} {x y : LexError} → x ≡ y → rest y ≡ [] → at ≤ length d → Added d d at (rest x) at
-no-rest {d} {at} q s h = rest-written q s (record { put = put-none d at h; ends = omega arith })
+pub rest-expected : (n a b : ℕ) → n ≡ 16 → rest n a b ≡ shown a ++ (bytes "' but found '" ++ (shown b ++ bytes "'"))
+unfolding between rest
+rest-expected n a b q = rw q
 
--- an error's number is one from 10 to 24
-from-10 : (e : LexError) → between 10 24 (errorNumber e .0) ≡ true
-unfolding between
-from-10 DanglingBlockComment = refl
-from-10 (Unexpected c) = refl
-from-10 (InvalidStringElement c) = refl
-from-10 (InvalidStringEscape c) = refl
-from-10 (InvalidHexDigit c) = refl
-from-10 (Expected w c) = refl
-from-10 UnexpectedEof = refl
-from-10 NumberTooBig = refl
-from-10 (InvalidUnicodeValue n) = refl
-from-10 LoneUnderscore = refl
-from-10 (ConfusingUnicode c) = refl
-from-10 (InvalidUtf8Id v e) = refl
-from-10 EmptyId = refl
-from-10 EmptyAnnotation = refl
+pub rest-hex : (n a b : ℕ) → n ≡ 19 → rest n a b ≡ hex a
+unfolding between rest
+rest-hex n a b q = rw q
 
-pub numbered : (e : LexError) {n : ℕ} → n ≡ errorNumber e .0 → (10 ≤ n) × (n ≤ 24)
-numbered e q = rw q (between-true 10 24 (errorNumber e .0) (from-10 e))
+pub no-rest :
+    (n a b : ℕ) → between 11 14 n ≡ false → (n ≡ 21 → ⊥) → (n ≡ 16 → ⊥) → (n ≡ 19 → ⊥) → rest n a b ≡ []
+unfolding rest
+no-rest n a b range not21 not16 not19 = rw (range, ne-eqb n 21 not21, ne-eqb n 16 not16, ne-eqb n 19 not19, rest)
 
--- the lead of the error's number, and the rest behind it
-pub formatted :
-    {old mid new : List ℕ} {at n : ℕ} (e : LexError) (number : ℕ) → length old ≡ 81 → number ≡ errorNumber e .0
-    → Added old mid 0 (lead number) at → Added mid new at (rest e) n → Formatted e new n
-unfolding message
-formatted e number l q p r =
-    let w = added-then (rw q at p) r in
-    record { room = added-length w ∙ l; fits = omega (arith, w .ends, w .put .fits); says = λ t. rw (added-front w) (displays e t) }
+pub nothing-written : {d v : List ℕ} {at : ℕ} → v ≡ [] → at ≤ length d → Added d d at v at
+nothing-written {d} {at = at} q h = added-same (sym q) (record { put = put-none d at h; ends = omega arith })
 
-pub untold : {r : Refusal} {e : LexError} {buffer : List ℕ} → r ≡ Lexical e → tellable e ≡ false → Tells r buffer (Refused NoMessage) buffer
-untold {e = e} q t = Tells.none (λ e′ m q′ d. let z : e′ ≡ e = cc in never (rw z at (has-message d)) t)
+-- ---- whether there is a message, by the number
+
+pub unknown : (n a b : ℕ) → known n ≡ false → false ≡ tellable n a b
+unfolding tellable
+unknown n a b k = rw k
+
+pub tellable-character : (n a b : ℕ) → known n ≡ true → between 11 14 n ≡ true → isScalar a ≡ tellable n a b
+unfolding tellable showable
+tellable-character n a b k range = rw (k, range, showable)
+
+pub tellable-expected : (n a b : ℕ) → n ≡ 16 → isScalar a && isScalar b ≡ tellable n a b
+unfolding between known showable tellable
+tellable-expected n a b q = rw q
+
+pub tellable-confusing : (n a b : ℕ) → n ≡ 21 → confusing a ≡ tellable n a b
+unfolding between known showable tellable
+tellable-confusing n a b q = rw q
+
+pub tellable-other : (n a b : ℕ) → known n ≡ true → between 11 14 n ≡ false → (n ≡ 16 → ⊥) → (n ≡ 21 → ⊥) → true ≡ tellable n a b
+unfolding tellable showable
+tellable-other n a b k range not16 not21 = rw (k, range, ne-eqb n 16 not16, ne-eqb n 21 not21, showable)
+
+pub tellable-known : (n a b : ℕ) → tellable n a b ≡ true → (10 ≤ n) × (n ≤ 24)
+unfolding known tellable
+tellable-known n a b t = between-true 10 24 n (and-left (between 10 24 n) (not (eqb n 15)) (and-left (known n) (showable n a b) t))
+
+-- ---- the answer
+
+pub untold : (n a b : ℕ) (buffer : List ℕ) → tellable n a b ≡ false → (Refused NoMessage, buffer) ≡ answer n a b buffer
+unfolding answer
+untold n a b buffer t = rw (t, answer)
 
 -- the message's own length
-pub formatted-length : {e : LexError} {text : List ℕ} {n : ℕ} → Formatted e text n → n ≡ length (take n text)
-formatted-length {text = text} {n = n} f = sym (length-take-le n text (omega (arith, f .room, f .fits)))
+pub message-length : {text new m : List ℕ} {k : ℕ} → Added text new 0 m k → k ≡ length (take k new)
+message-length {m = m} w = w .ends ∙ zero-add (length m) ∙ sym (ap length (added-front w))
 
-module _ {r : Refusal} {e : LexError} {buffer text : List ℕ} {n : ℕ} (q : r ≡ Lexical e) (t : tellable e ≡ true) (f : Formatted e text n) where
-  pub cut : length buffer < n → Tells r buffer (Refused BufferTooShort) buffer
-  cut h = Tells.too-short q (f .says t) (omega (arith, formatted-length f))
+-- a message put into the caller's buffer
+pub fit : (n a b : ℕ) (buffer : List ℕ) → tellable n a b ≡ true → fitted (message n a b) buffer ≡ answer n a b buffer
+unfolding answer
+fit n a b buffer t = rw (t, answer)
 
-  pub delivered : {new : List ℕ} {end : ℕ} → n ≤ length buffer → Added buffer new 0 (take n text) end → Tells r buffer (Written n) new
-  delivered {new} {end} h p =
-      let m = take n text in
-      let z : new ≡ m ++ drop (length m) buffer = p .put .is ∙ ap (λ i. m ++ drop i buffer) (zero-add (length m)) in
-      let y : Tells r buffer (Written (length m)) (m ++ drop (length m) buffer) = Tells.told q (f .says t) (omega (arith, formatted-length f)) in
-      rw (z, ap Written (formatted-length f)) y
+pub cut :
+    {text new buffer m : List ℕ} {k : ℕ} → Added text new 0 m k → length buffer < k
+    → (Refused BufferTooShort, buffer) ≡ fitted m buffer
+unfolding fitted
+cut {buffer = buffer} {m = m} w h = rw (lt-ltb (length buffer) (length m) (omega (arith, w .ends)), fitted)
+
+pub delivered :
+    {text new buffer left m : List ℕ} {k end : ℕ} → Added text new 0 m k → k ≤ length buffer → Added buffer left 0 (take k new) end
+    → (Written k, left) ≡ fitted m buffer
+unfolding fitted
+delivered {buffer = buffer} {left = left} {m = m} {k = k} w h p =
+    let q = added-same (added-front w) p in
+    let l : k ≡ length m = omega (arith, w .ends) in
+    let z : left ≡ m ++ drop (length m) buffer = q .put .is ∙ ap (λ i. m ++ drop i buffer) (zero-add (length m)) in
+    rw (le-ltb (length buffer) (length m) (omega arith), z, l, fitted)

@@ -1,2 +1,8 @@
+pub mod OneMessage
+pub mod HexLaws
+pub mod CharLaws
+mod LeadLaws
 pub mod MessageLaws
-pub mod AnswerLaws
+mod AnswerLaws
+mod TellLaws
+pub mod ByNumberLaws

@@ -1,2 +1,4 @@
+pub mod Messages
+pub mod ByNumber
+pub mod Spelled
 pub mod MessageModel
-pub mod Formatting

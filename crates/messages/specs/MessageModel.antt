@@ -1,46 +1,60 @@
--- Messages, and which errors have one, by functions that compute. `proofs/` shows that they say what `Messages` of wat asks.
+-- Messages by an error's number and two values, by functions that compute. `proofs/` shows that they say what
+-- `Messages` asks.
 use Prim.Native.Nat.{ℕ}
-use mathlib.Core.Bool.{Bool, true, _&&_}
+use mathlib.Core.Bool.{Bool, true, false, _&&_, _||_, not}
 use mathlib.Core.List.{List, [], _++_}
-use Rattle.wat.specs.declared.LexError.{LexError}
-use Rattle.wat.specs.declared.LexError.the-variants.{DanglingBlockComment, Unexpected, InvalidStringElement, InvalidStringEscape, InvalidHexDigit, Expected, UnexpectedEof, NumberTooBig, InvalidUnicodeValue, LoneUnderscore, ConfusingUnicode, InvalidUtf8Id, EmptyId, EmptyAnnotation}
-use Rattle.wat.specs.{Bytes.bytes, Chars.isScalar, Chars.confusing, Cases.errorNumber}
-use Rattle.spelling.specs.Spelled.{hex, shown, lead}
+use lib.Dec.{eqb, ltb}
+use lib.ListN.{length, drop}
+use Rattle.wat.specs.declared.Refusal.the-variants.{BufferTooShort, NoMessage}
+use Rattle.messages.specs.declared.Told.{Told}
+use Rattle.messages.specs.declared.Told.the-variants.{Refused, Written}
+use Rattle.wat.specs.{Bytes.bytes, Bytes.between, Chars.isScalar, Chars.confusing}
+use Rattle.messages.specs.Spelled.{hex, shown, lead}
 
--- what a message says after the text that it begins with
-unfoldable pub rest : LexError → List ℕ
-rest DanglingBlockComment = []
-rest (Unexpected c) = shown c ++ bytes "'"
-rest (InvalidStringElement c) = shown c ++ bytes "'"
-rest (InvalidStringEscape c) = shown c ++ bytes "'"
-rest (InvalidHexDigit c) = shown c ++ bytes "'"
-rest (Expected w c) = shown w ++ (bytes "' but found '" ++ (shown c ++ bytes "'"))
-rest UnexpectedEof = []
-rest NumberTooBig = []
-rest (InvalidUnicodeValue n) = hex n
-rest LoneUnderscore = []
-rest (ConfusingUnicode c) = shown c ++ bytes "'"
-rest (InvalidUtf8Id v e) = []
-rest EmptyId = []
-rest EmptyAnnotation = []
+-- the numbers of errors; 15, `InvalidDigit`, is none's
+unfoldable pub known : ℕ → Bool
+known n = (between 10 24 n) && (not (eqb n 15))
+
+-- the characters that a message shows are scalar values, and a confusing one is one of the nine
+unfoldable pub showable : ℕ → ℕ → ℕ → Bool
+showable n a b =
+    elim (between 11 14 n) [
+      | true ↦ isScalar a
+      | false ↦
+          elim (eqb n 16) [
+            | true ↦ isScalar a && isScalar b
+            | false ↦ elim (eqb n 21) [ true ↦ confusing a | false ↦ true ]
+          ]
+    ]
+
+-- there is a message
+unfoldable pub tellable : ℕ → ℕ → ℕ → Bool
+tellable n a b = known n && showable n a b
+
+-- what it says after the text that it begins with: a character and a quote, two characters, a number, or nothing
+unfoldable pub rest : ℕ → ℕ → ℕ → List ℕ
+rest n a b =
+    elim (between 11 14 n || eqb n 21) [
+      | true ↦ shown a ++ bytes "'"
+      | false ↦
+          elim (eqb n 16) [
+            | true ↦ shown a ++ (bytes "' but found '" ++ (shown b ++ bytes "'"))
+            | false ↦ elim (eqb n 19) [ true ↦ hex a | false ↦ [] ]
+          ]
+    ]
 
 -- the whole of it
-unfoldable pub message : LexError → List ℕ
-message e = lead (errorNumber e .0) ++ rest e
+unfoldable pub message : ℕ → ℕ → ℕ → List ℕ
+message n a b = lead n ++ rest n a b
 
--- the error has a message
-unfoldable pub tellable : LexError → Bool
-tellable DanglingBlockComment = true
-tellable (Unexpected c) = isScalar c
-tellable (InvalidStringElement c) = isScalar c
-tellable (InvalidStringEscape c) = isScalar c
-tellable (InvalidHexDigit c) = isScalar c
-tellable (Expected w c) = isScalar w && isScalar c
-tellable UnexpectedEof = true
-tellable NumberTooBig = true
-tellable (InvalidUnicodeValue n) = true
-tellable LoneUnderscore = true
-tellable (ConfusingUnicode c) = confusing c
-tellable (InvalidUtf8Id v e) = true
-tellable EmptyId = true
-tellable EmptyAnnotation = true
+-- a message put into a buffer: the call's answer, and the buffer afterwards
+unfoldable pub fitted : List ℕ → List ℕ → Told × List ℕ
+fitted m buffer =
+    elim (ltb (length buffer) (length m)) [
+      | true ↦ (Refused BufferTooShort, buffer)
+      | false ↦ (Written (length m), m ++ drop (length m) buffer)
+    ]
+
+unfoldable pub answer : ℕ → ℕ → ℕ → List ℕ → Told × List ℕ
+answer n a b buffer =
+    elim (tellable n a b) [ true ↦ fitted (message n a b) buffer | false ↦ (Refused NoMessage, buffer) ]

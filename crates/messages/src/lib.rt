@@ -1,91 +1,231 @@
-// The message of an error: the Rust's `Display` of `LexError`, into a lent buffer, as wat's Messages defines it.
-ghost use Prim.Native.Nat.{_+_, _≤_};
+// The message of an error: the Rust's `Display` of `LexError`, into a lent buffer, as specs/Messages defines it.
+ghost use Prim.Native.Nat.{_+_, _^_, _≤_, _<_};
 ghost use mathlib.Core.Path.{_≡_};
+ghost use mathlib.Core.List.{_++_};
 ghost use lib.ListN.{length};
-ghost use Rattle.wat.specs.Messages.{Tells};
+ghost use Rattle.wat.specs.Bytes.{bytes};
+ghost use Rattle.wat.specs.StringModel.{letterOf};
 ghost use Rattle.buffers.specs.Writing.{Added};
-ghost use Rattle.messages.specs.MessageModel.{rest as rest-of, tellable};
-ghost use Rattle.messages.specs.Formatting.{Formatted};
-use wat::LexError;
-use wat::Message;
+ghost use Rattle.messages.specs.Messages.{figure, named, Tells};
+ghost use Rattle.messages.specs.ByNumber.{TellsBy};
+ghost use Rattle.messages.specs.Spelled.{hex, letterByte, shown, longestLead, longestRest, lead as lead-of};
+ghost use Rattle.messages.specs.MessageModel.{known, tellable, rest as rest-of, message as message-of, answer};
 use wat::Refusal;
 
-// What the message of an error says after its lead: the characters that the error carries, or the number.
-fn rest(e: LexError, out: &mut [u8], at: usize) -> usize
-    requires { ⌜ at + 38 ≤ length (now out) ⌝ }
-    ensures { λ r. ⌜ Added (now (out .entry)) (now (out .exit)) at (rest-of e) r ⌝ }
-{
-    match e {
-        LexError::Unexpected(c) => spelling::quoted(out, at, c),
-        LexError::InvalidStringElement(c) => spelling::quoted(out, at, c),
-        LexError::InvalidStringEscape(c) => spelling::quoted(out, at, c),
-        LexError::InvalidHexDigit(c) => spelling::quoted(out, at, c),
-        LexError::ConfusingUnicode(c) => spelling::quoted(out, at, c),
-        LexError::Expected { wanted, found } => spelling::expected(out, at, wanted, found),
-        LexError::InvalidUnicodeValue(n) => spelling::lower_hex(out, at, n),
-        LexError::DanglingBlockComment => at,
-        LexError::UnexpectedEof => at,
-        LexError::NumberTooBig => at,
-        LexError::LoneUnderscore => at,
-        LexError::InvalidUtf8Id {
-            valid_up_to: _,
-            error_len: _,
-        } => at,
-        LexError::EmptyId => at,
-        LexError::EmptyAnnotation => at,
-    }
-}
-
-// The message of `e` at the front of `out`; answers its length.
-fn fmt(e: LexError, out: &mut [u8]) -> usize
-    requires { ⌜ length (now out) ≡ 81 ⌝ }
-    ensures { λ r. ⌜ Formatted e (now (out .exit)) r ⌝ }
-{
-    let at = spelling::lead(out, kinds::error_number(e));
-    rest(e, out, at)
-}
-
-// Whether the error has a message: its characters are scalar values, and a confusing one is one of the nine.
-fn has_message(e: LexError) -> bool
-    ensures { λ r. ⌜ r ≡ tellable e ⌝ }
-{
-    match e {
-        LexError::Unexpected(c) => classes::is_scalar(c),
-        LexError::InvalidStringElement(c) => classes::is_scalar(c),
-        LexError::InvalidStringEscape(c) => classes::is_scalar(c),
-        LexError::InvalidHexDigit(c) => classes::is_scalar(c),
-        LexError::Expected { wanted, found } => classes::is_scalar(wanted)
-            && classes::is_scalar(found),
-        LexError::ConfusingUnicode(c) => classes::is_confusing_unicode(c),
-        LexError::DanglingBlockComment => true,
-        LexError::UnexpectedEof => true,
-        LexError::NumberTooBig => true,
-        LexError::InvalidUnicodeValue(_) => true,
-        LexError::LoneUnderscore => true,
-        LexError::InvalidUtf8Id {
-            valid_up_to: _,
-            error_len: _,
-        } => true,
-        LexError::EmptyId => true,
-        LexError::EmptyAnnotation => true,
-    }
+// A message of so many bytes at the front of the buffer, or a refusal.
+pub enum Told {
+    Refused(Refusal),
+    Written(usize),
 }
 
 // The message of an error at the front of the buffer. Refused by 34 where there is none, then by 32 where the buffer is too short.
-pub fn message(r: Refusal, buffer: &mut [u8]) -> Message
+pub fn message(r: Refusal, buffer: &mut [u8]) -> Told
     ensures { λ m. ⌜ Tells r (now (buffer .entry)) m (now (buffer .exit)) ⌝ }
 {
-    let Refusal::Lexical(e) = r else {
-        return Message::Refused(Refusal::NoMessage);
-    };
-    if !has_message(e) {
-        return Message::Refused(Refusal::NoMessage);
+    let c = codes::refusal_code(r);
+    tell(c.number as u64, narrow(c.first), narrow(c.second), buffer)
+}
+
+// The same for the error that has the number and the values. A value over 32 bits is no error's: 34.
+pub fn message_of(number: u64, first: u64, second: u64, buffer: &mut [u8]) -> Told
+    ensures { λ m. ⌜ TellsBy number first second (now (buffer .entry)) m (now (buffer .exit)) ⌝ }
+{
+    if 0xFFFF_FFFF < first {
+        return Told::Refused(Refusal::NoMessage);
     }
-    let mut text = [0u8; 81];
-    let n = fmt(e, &mut text);
+    if 0xFFFF_FFFF < second {
+        return Told::Refused(Refusal::NoMessage);
+    }
+    tell(number, first as u32, second as u32, buffer)
+}
+
+// A value of 32 bits as it is. Only the lengths of 2 and 22 may be wider, which no message shows.
+fn narrow(value: u64) -> u32
+    ensures { λ r. ⌜ (value < 2 ^ 32 → r ≡ value) ⌝ }
+{
+    if 0xFFFF_FFFF < value {
+        return 0;
+    }
+    value as u32
+}
+
+// The longest text that a message begins with.
+const LONGEST_LEAD: usize = 43;
+
+// The longest that follows one: two characters of twelve bytes each, the text between them and a quote.
+const LONGEST_REST: usize = 38;
+
+// What both calls answer. The message is made in a buffer that has room for any lead with any rest, and copied.
+fn tell(number: u64, first: u32, second: u32, buffer: &mut [u8]) -> Told
+    ensures { λ m. ⌜ (m, now (buffer .exit)) ≡ answer number first second (now (buffer .entry)) ⌝ }
+{
+    if !has_message(number, first, second) {
+        return Told::Refused(Refusal::NoMessage);
+    }
+    let mut text = [0u8; LONGEST_LEAD + LONGEST_REST];
+    let n = fmt(number, first, second, &mut text);
     if buffer.len() < n {
-        return Message::Refused(Refusal::BufferTooShort);
+        return Told::Refused(Refusal::BufferTooShort);
     }
     buffers::append(buffer, 0, &text[..n]);
-    Message::Written(n)
+    Told::Written(n)
+}
+
+// The message at the front of `out`; answers its length.
+fn fmt(number: u64, first: u32, second: u32, out: &mut [u8]) -> usize
+    requires { ⌜ (10 ≤ number) × (number ≤ 24) × (length (now out) ≡ longestLead + longestRest) ⌝ }
+    ensures { λ r. ⌜ Added (now (out .entry)) (now (out .exit)) 0 (message-of number first second) r ⌝ }
+{
+    let at = lead(out, number);
+    rest(number, first, second, out, at)
+}
+
+// What a message says after its lead: the characters that the error carries, or the number.
+fn rest(number: u64, first: u32, second: u32, out: &mut [u8], at: usize) -> usize
+    requires { ⌜ at + longestRest ≤ length (now out) ⌝ }
+    ensures { λ r. ⌜ Added (now (out .entry)) (now (out .exit)) at (rest-of number first second) r ⌝ }
+{
+    match number {
+        11..=14 | 21 => quoted(out, at, first),
+        16 => expected(out, at, first, second),
+        19 => lower_hex(out, at, first),
+        _ => at,
+    }
+}
+
+// 15, `InvalidDigit`, is no error's number.
+fn is_error(number: u64) -> bool
+    ensures { λ r. ⌜ r ≡ known number ⌝ }
+{
+    (10 <= number) & (number <= 24) & !(number == 15)
+}
+
+// Whether there is a message: the number is an error's, its characters are scalar values, a confusing one is one of the
+// nine.
+fn has_message(number: u64, first: u32, second: u32) -> bool
+    ensures { λ r. ⌜ r ≡ tellable number first second ⌝ }
+{
+    if !is_error(number) {
+        return false;
+    }
+    match number {
+        11..=14 => lex_classes::is_scalar(first),
+        16 => lex_classes::is_scalar(first) & lex_classes::is_scalar(second),
+        21 => lex_classes::is_confusing_unicode(first),
+        _ => true,
+    }
+}
+
+// ---- pieces of messages
+
+fn hex_digit(d: u32) -> u8
+    requires { ⌜ d < 16 ⌝ }
+    ensures { λ r. ⌜ r ≡ figure d ⌝ }
+{
+    let figures = b"0123456789abcdef";
+    let i = d as usize;
+    figures[i]
+}
+
+// Rust's `{:x}`: at most eight digits, the highest first.
+fn lower_hex(out: &mut [u8], at: usize, n: u32) -> usize
+    requires { ⌜ at + 8 ≤ length (now out) ⌝ }
+    ensures { λ r. ⌜ Added (now (out .entry)) (now (out .exit)) at (hex n) r ⌝ }
+{
+    if n < 16 {
+        out[at] = hex_digit(n);
+        return at + 1;
+    }
+    let end = lower_hex(out, at, n / 16);
+    out[end] = hex_digit(n % 16);
+    end + 1
+}
+
+// The letter that stands for a character behind a backslash; 0 where it has none.
+fn escape_letter(c: u32) -> u8
+    ensures { λ r. ⌜ r ≡ letterByte (letterOf named c) ⌝ }
+{
+    match c {
+        0x09 => b't',
+        0x0D => b'r',
+        0x0A => b'n',
+        0x5C => b'\\',
+        0x27 => b'\'',
+        _ => 0,
+    }
+}
+
+// A character as a message shows it.
+fn escape_char(out: &mut [u8], at: usize, c: u32) -> usize
+    requires { ⌜ at + 12 ≤ length (now out) ⌝ }
+    ensures { λ r. ⌜ Added (now (out .entry)) (now (out .exit)) at (shown c) r ⌝ }
+{
+    let letter = escape_letter(c);
+    if letter != 0 {
+        out[at] = b'\\';
+        out[at + 1] = letter;
+        return at + 2;
+    }
+    match c {
+        0x20..=0x7E => {
+            out[at] = c as u8;
+            at + 1
+        }
+        _ => {
+            let open = buffers::append(out, at, b"\\u{");
+            let end = lower_hex(out, open, c);
+            buffers::append(out, end, b"}")
+        }
+    }
+}
+
+// A character, and the quote that closes it.
+fn quoted(out: &mut [u8], at: usize, c: u32) -> usize
+    requires { ⌜ at + 13 ≤ length (now out) ⌝ }
+    ensures { λ r. ⌜ Added (now (out .entry)) (now (out .exit)) at (shown c ++ bytes "'") r ⌝ }
+{
+    let close = escape_char(out, at, c);
+    buffers::append(out, close, b"'")
+}
+
+// Two characters: the one that had to come, and the one that came.
+fn expected(out: &mut [u8], at: usize, wanted: u32, found: u32) -> usize
+    requires { ⌜ at + longestRest ≤ length (now out) ⌝ }
+    ensures { λ r. ⌜ Added (now (out .entry)) (now (out .exit)) at (shown wanted ++ (bytes "' but found '" ++ (shown found ++ bytes "'"))) r ⌝ }
+{
+    let close = escape_char(out, at, wanted);
+    let open = buffers::append(out, close, b"' but found '");
+    quoted(out, open, found)
+}
+
+// The text that the message of an error begins with, by the error's number: it stands among all of them from one place to the next.
+fn lead(out: &mut [u8], number: u64) -> usize
+    requires { ⌜ (10 ≤ number) × (number ≤ 24) × (longestLead ≤ length (now out)) ⌝ }
+    ensures { λ r. ⌜ Added (now (out .entry)) (now (out .exit)) 0 (lead-of number) r × (r ≤ longestLead) ⌝ }
+{
+    let all =
+        b"unterminated block commentunexpected character 'invalid character in string 'invalid string escape 'invalid hex digit 'expected 'unexpected end-of-filenumber is too big to parseinvalid unicode scalar value 0xbare underscore in numeric literallikely-confusing unicode character found 'malformed UTF-8 encoding of string-based idempty identifierempty annotation id";
+    let places = [
+        0usize,
+        26,
+        48,
+        77,
+        100,
+        119,
+        119,
+        129,
+        151,
+        177,
+        208,
+        242,
+        284,
+        327,
+        343,
+        362,
+    ];
+    let i = (number - 10) as usize;
+    let from = places[i];
+    let n = places[i + 1] - from;
+    buffers::copy(out, 0, all, from, n);
+    n
 }

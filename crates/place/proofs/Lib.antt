@@ -1,2 +1,3 @@
+pub mod OnePlace
 pub mod MoveLaws
 pub mod WalkLaws

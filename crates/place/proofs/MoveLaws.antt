@@ -8,12 +8,11 @@ use native.Mathlib.Omega.{arith}
 use lib.Dec.{ltb}
 use lib.ListN.{length}
 use borrow.Author.Tests.{ltb-true, ltb-false, eqb-true}
-use Rattle.wat.specs.declared.{Place.Place, Moved.Moved}
+use Rattle.place.specs.declared.{Place.Place, Moved.Moved}
 use Rattle.wat.specs.Bytes.{Each}
-use Rattle.wat.specs.Places.{lineFeed, lineFeeds, Column, Leads, Moves}
-use Rattle.wat.proofs.Hexnums.{differ}
-use Rattle.wat.proofs.Utf8Laws.{never}
-use Rattle.laws.proofs.OnePlace.{moves-one}
+use Rattle.place.specs.Places.{lineFeed, lineFeeds, Column, Leads, Moves}
+use Rattle.wat.proofs.Basics.{differ, never}
+use Rattle.place.proofs.OnePlace.{moves-one}
 use Rattle.place.specs.PlaceModel.{last, step, after, answer, moved}
 
 -- a place that a counter holds

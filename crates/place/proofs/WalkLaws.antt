@@ -9,8 +9,8 @@ use mathlib.Core.Option.{none, some}
 use lib.ListN.{length, drop, getD, drop-of-length-le}
 use lib.Seq.{drop-cons}
 use borrow.Author.Tests.{lt-ltb, le-ltb, eq-eqb, ne-eqb}
-use Rattle.wat.specs.declared.Place.{Place}
-use Rattle.wat.specs.Places.{Moves}
+use Rattle.place.specs.declared.Place.{Place}
+use Rattle.place.specs.Places.{Moves}
 use Rattle.place.specs.PlaceModel.{last, step, after, moved}
 use Rattle.place.proofs.MoveLaws.{Held, decides}
 

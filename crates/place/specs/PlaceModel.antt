@@ -4,8 +4,8 @@ use mathlib.Core.Bool.{true, false}
 use mathlib.Core.List.{List, [], _∷_}
 use mathlib.Core.Option.{Option, none, some}
 use lib.Dec.{ltb}
-use Rattle.wat.specs.declared.{Place.Place, Moved.Moved}
-use Rattle.wat.specs.Places.{lineFeed}
+use Rattle.place.specs.declared.{Place.Place, Moved.Moved}
+use Rattle.place.specs.Places.{lineFeed}
 
 -- the last number that a counter holds
 abbrev pub last : ℕ

@@ -1,7 +1,22 @@
-// The place counter by value: document 01's lines and columns, as wat's Places defines them.
-ghost use Rattle.wat.specs.Places.{Moves};
-use wat::Moved;
-use wat::Place;
+// The place counter by value: lines and columns as specs/Places defines them.
+ghost use Rattle.place.specs.Places.{Moves};
+
+// The place counter: line and column, each from 1.
+pub struct Place {
+    pub line: u32,
+    pub column: u32,
+}
+
+impl Place {
+    // The last line and the last column that a counter holds.
+    pub const LAST: u32 = 4_294_967_295;
+}
+
+// The counter after a move; unchanged where the move is refused by 35.
+pub struct Moved {
+    pub ok: bool,
+    pub place: Place,
+}
 
 const LAST: u32 = Place::LAST;
 

@@ -1,24 +1,40 @@
 // Answers of the Rust, recorded by `oracle record` (tests/oracle), replayed against Thallusweb: how many agree, by type of row. The rows of the
-// file `answers` are told of in `rows`.
+// file `answers` are told of in `replay_rows`.
 ghost use Prim.Native.Nat.{_<_};
 ghost use mathlib.Core.Path.{_≡_};
 ghost use lib.ListN.{length};
+use wat::Settings;
+
+// The settings of a row.
+fn row_settings(row: &[u8]) -> Settings
+    requires { ⌜ length (now row) ≡ 152 ⌝ }
+{
+    c_asked::settings_of(replay_rows::wide(row[1]) as u32)
+}
 
 fn parse_agrees(row: &[u8], text: &[u8]) -> bool
     requires { ⌜ length (now row) ≡ 152 ⌝ }
 {
-    rows::parsed_agrees(
+    replay_rows::parsed_agrees(
         row,
-        lexer::parse(text, row[1] == 1, rows::number_at(row, 4) as usize),
+        lex_calls::parse(
+            text,
+            row_settings(row),
+            replay_rows::number_at(row, 4) as usize,
+        ),
     )
 }
 
 fn annotation_agrees(row: &[u8], text: &[u8]) -> bool
     requires { ⌜ length (now row) ≡ 152 ⌝ }
 {
-    rows::found_agrees(
+    replay_rows::found_agrees(
         row,
-        lexer::annotation(text, row[1] == 1, rows::number_at(row, 4) as usize),
+        lex_calls::annotation(
+            text,
+            row_settings(row),
+            replay_rows::number_at(row, 4) as usize,
+        ),
     )
 }
 
@@ -26,43 +42,40 @@ fn list_agrees(row: &[u8], text: &[u8]) -> bool
     requires { ⌜ length (now row) ≡ 152 ⌝ }
 {
     let mut list = [238u8; 64];
-    let n = rows::wide(row[3]) as usize;
+    let n = replay_rows::wide(row[3]) as usize;
     if 64 < n {
         return false;
     }
-    let listed = listing::list(
+    let listed = lex_list::list(
         text,
-        row[1] == 1,
-        rows::number_at(row, 4) as usize,
-        rows::number_at(row, 8) as usize,
+        row_settings(row),
+        replay_rows::number_at(row, 4) as usize,
+        replay_rows::number_at(row, 8) as usize,
         &mut list[..n],
     );
-    rows::listed_agrees(row, listed) & rows::bytes_agree(row, &list, 64)
+    replay_rows::listed_agrees(row, listed) & replay_rows::bytes_agree(row, &list, 64)
 }
 
 fn read_agrees(row: &[u8], text: &[u8]) -> bool
     requires { ⌜ length (now row) ≡ 152 ⌝ }
 {
     let mut buffer = [238u8; 64];
-    let n = rows::wide(row[3]) as usize;
+    let n = replay_rows::wide(row[3]) as usize;
     if 64 < n {
         return false;
     }
     let token = [
-        rows::number_at(row, 8),
-        rows::number_at(row, 4),
-        rows::number_at(row, 32),
+        replay_rows::number_at(row, 8),
+        replay_rows::number_at(row, 4),
+        replay_rows::number_at(row, 32),
     ];
-    let answer = read_words::reading_words(
-        token[1] as usize,
-        reading::read(
-            text,
-            rows::wide(row[1]),
-            asked::token_of(token),
-            &mut buffer[..n],
-        ),
-    );
-    rows::agrees(row, answer) & rows::bytes_agree(row, &buffer, 64)
+    let answer = c_read_words::reading_words(read_call::read(
+        text,
+        replay_rows::wide(row[1]),
+        c_asked::token_of(token),
+        &mut buffer[..n],
+    ));
+    replay_rows::agrees(row, answer) & replay_rows::bytes_agree(row, &buffer, 64)
 }
 
 // A row's type, doubled, and one more where the answers differ; 0 for no row.
@@ -72,7 +85,7 @@ fn replayed(row: &[u8]) -> usize
     if row.len() != 152 {
         return 0;
     }
-    let n = rows::wide(row[2]) as usize;
+    let n = replay_rows::wide(row[2]) as usize;
     if 40 < n {
         return 1;
     }
@@ -138,5 +151,5 @@ fn main() {
     }
     let c = replay_all(fd);
     libc::close(fd);
-    rows::report(&c);
+    replay_rows::report(&c);
 }

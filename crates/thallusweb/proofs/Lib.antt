@@ -1,2 +1,3 @@
 mod WordLaws
 pub mod OneWords
+pub mod Theorems

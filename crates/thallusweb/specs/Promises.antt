@@ -2,18 +2,19 @@
 use Prim.Native.Nat.{ℕ}
 use mathlib.Core.List.{List}
 use lib.ListN.{getD}
-use Rattle.wat.specs.declared.{Checked.Checked, Token.Token, Refusal.Refusal, Found.Found, Parsed.Parsed, Listed.Listed, LexError.LexError, Reading.Reading, IntegerSign.IntegerSign, FloatSign.FloatSign, Message.Message}
-use Rattle.wat.specs.declared.Refusal.the-variants.{Lexical, NoMessage}
-use Rattle.wat.specs.Settings.{Settings}
+use Rattle.wat.specs.declared.{Checked.Checked, Token.Token, Refusal.Refusal, Found.Found, Parsed.Parsed, Listed.Listed}
+use Rattle.wat_values.specs.declared.{Reading.Reading, IntegerSign.IntegerSign, FloatSign.FloatSign}
+use Rattle.messages.specs.declared.Told.{Told}
+use Rattle.wat.specs.declared.Settings.{Settings}
 use Rattle.wat.specs.Utf8.{Says}
 use Rattle.wat.specs.Calls.{Parses, Annotates}
 use Rattle.wat.specs.Division.{Listing}
-use Rattle.values.specs.Reading.{ReadsSign, ReadsNegative}
-use Rattle.wat.specs.Messages.{Tells}
-use Rattle.words.specs.Words.{checkedWords, refusedWords, foundWords, parsedWords, listedWords}
-use Rattle.read_words.specs.Words.{barredWords, readingWords, integerSignWords, floatSignWords, messageWords}
-use Rattle.asked.specs.Asked.{Names, NamesNone, Spelled, NoError}
-use Rattle.reading.specs.ByNumber.{ReadBy, Nowhere}
+use Rattle.wat_values.specs.Reading.{ReadsSign, ReadsNegative}
+use Rattle.messages.specs.ByNumber.{TellsBy}
+use Rattle.c_words.specs.Words.{checkedWords, refusedWords, foundWords, parsedWords, listedWords}
+use Rattle.c_read_words.specs.Words.{readingWords, integerSignWords, floatSignWords, messageWords}
+use Rattle.c_asked.specs.Asked.{Denotes, DenotesNone}
+use Rattle.read_call.specs.ByNumber.{ReadBy, Nowhere}
 
 pub data Utf8Checked (text : List ℕ) : List ℕ → Type 0 where
   checked : (r : Checked) → Says text r → Utf8Checked text (checkedWords r)
@@ -30,25 +31,25 @@ pub data ListedWords (σ : Settings) (text : List ℕ) (start budget : ℕ) (lis
 -- ---- readers: the token is given by the words of its kind, offset and length
 
 -- words that name no token are refused at the offset that they give: 1 to 4, then 30
-pub record Nameless (text w : List ℕ) (r : Refusal) : Type 0 where
-  pub none : NamesNone w
-  pub at : Nowhere text (getD w 1 0) r
+pub record Nameless (text w : List ℕ) (r : Refusal) (p : ℕ) : Type 0 where
+  pub none : DenotesNone w
+  pub at : Nowhere text (getD w 1 0) r p
 
 -- the first call of the reader that has the number n
 pub data ReadWords (n : ℕ) (text w buffer : List ℕ) : List ℕ → List ℕ → Type 0 where
-  read : {t : Token} {a : Reading} {b : List ℕ} → Names w t → ReadBy n text t buffer a b → ReadWords n text w buffer (readingWords (getD w 1 0) a) b
-  nameless : {r : Refusal} → Nameless text w r → ReadWords n text w buffer (barredWords (getD w 1 0) r) buffer
+  read : {t : Token} {a : Reading} {b : List ℕ} → Denotes w t → ReadBy n text t buffer a b
+      → ReadWords n text w buffer (readingWords a) b
+  nameless : {r : Refusal} {p : ℕ} → Nameless text w r p → ReadWords n text w buffer (refusedWords r p) buffer
 
 pub data IntegerSignWords (text w : List ℕ) : List ℕ → Type 0 where
-  read : {t : Token} (s : IntegerSign) → Names w t → ReadsSign text t s → IntegerSignWords text w (integerSignWords (getD w 1 0) s)
-  nameless : {r : Refusal} → Nameless text w r → IntegerSignWords text w (barredWords (getD w 1 0) r)
+  read : {t : Token} (s : IntegerSign) → Denotes w t → ReadsSign text t s → IntegerSignWords text w (integerSignWords s)
+  nameless : {r : Refusal} {p : ℕ} → Nameless text w r p → IntegerSignWords text w (refusedWords r p)
 
 pub data FloatSignWords (text w : List ℕ) : List ℕ → Type 0 where
-  read : {t : Token} (s : FloatSign) → Names w t → ReadsNegative text t s → FloatSignWords text w (floatSignWords (getD w 1 0) s)
-  nameless : {r : Refusal} → Nameless text w r → FloatSignWords text w (barredWords (getD w 1 0) r)
+  read : {t : Token} (s : FloatSign) → Denotes w t → ReadsNegative text t s → FloatSignWords text w (floatSignWords s)
+  nameless : {r : Refusal} {p : ℕ} → Nameless text w r p → FloatSignWords text w (refusedWords r p)
 
--- ---- messages; the second call and the place counter have theirs in the specs of `spots`
+-- ---- messages; the second call and the place counter have theirs in the specs of `c_spots`
 
 pub data MessageWords (n a b : ℕ) (buffer : List ℕ) : List ℕ → List ℕ → Type 0 where
-  told : {e : LexError} {m : Message} {c : List ℕ} → Spelled n a b e → Tells (Lexical e) buffer m c → MessageWords n a b buffer (messageWords m) c
-  nameless : NoError n a b → MessageWords n a b buffer (refusedWords NoMessage 0) buffer
+  told : {m : Told} {c : List ℕ} → TellsBy n a b buffer m c → MessageWords n a b buffer (messageWords m) c

@@ -1,59 +1,81 @@
-// What users link: `Lexer` and the place counter, and the calls exported to C. A call for C puts its answer into an array of words;
-// include/thallusweb.h explains each word.
-ghost use mathlib.Core.Path.{_≡_};
-ghost use Rattle.spots.specs.Spots.{partOf, MovedWords};
+// What users link: every public call (docs/PROMISES.md), and the calls exported to C. A call for C puts its answer into an array of
+// words; include/thallusweb.h explains each word.
+ghost use Rattle.c_asked.specs.Asked.{settingsOf};
+ghost use Rattle.c_spots.specs.Spots.{PartWords, MovedWords};
 ghost use Rattle.thallusweb.specs.Promises.{Utf8Checked, ParsedWords, AnnotatedWords, ListedWords, ReadWords, IntegerSignWords, FloatSignWords, MessageWords};
-pub use counter::move_over;
-pub use counter::new_place;
-pub use held::Lexer;
+pub use lex_calls::annotation;
+pub use lex_calls::parse;
+pub use lex_list::list;
+pub use lex_struct::Lexer;
+pub use messages::message;
+pub use place_counter::move_over;
+pub use place_counter::new_place;
+pub use read_float::exponent;
+pub use read_float::float_sign;
+pub use read_float::fraction;
+pub use read_float::integral;
+pub use read_float::payload;
+pub use read_integer::integer;
+pub use read_integer::integer_sign;
+pub use read_second::part;
+pub use read_text::annotation as annotation_name;
+pub use read_text::id;
+pub use read_text::src;
+pub use read_text::string;
+pub use utf8_check::check as check_utf8;
 
 // Whether the text is UTF-8: 0, or 2 with valid-up-to and error length.
 #[no_mangle]
 pub extern "C" fn thallusweb_utf8_check(text: &[u8], out: &mut [u64; 3])
     ensures { λ _. ⌜ Utf8Checked (now (text .entry)) (now (out .exit)) ⌝ }
 {
-    *out = words::checked_words(utf8::check(text));
+    *out = c_words::checked_words(utf8_check::check(text));
 }
 
 // One token at a position: what was found in five words, and the position afterwards.
 #[no_mangle]
-pub extern "C" fn thallusweb_parse(
-    text: &[u8],
-    allow_confusing: bool,
-    position: usize,
-    out: &mut [u64; 6],
-)
-    ensures { λ _. ⌜ ParsedWords (record { confusing = «allow_confusing» }) (now (text .entry)) position (now (out .exit)) ⌝ }
+pub extern "C" fn thallusweb_parse(text: &[u8], settings: u32, position: usize, out: &mut [u64; 6])
+    ensures { λ _. ⌜ ParsedWords (settingsOf settings) (now (text .entry)) position (now (out .exit)) ⌝ }
 {
-    *out = words::parsed_words(lexer::parse(text, allow_confusing, position));
+    *out = c_words::parsed_words(lex_calls::parse(text, c_asked::settings_of(settings), position));
 }
 
 // The annotation at a position: what was found, in five words.
 #[no_mangle]
 pub extern "C" fn thallusweb_annotation(
     text: &[u8],
-    allow_confusing: bool,
+    settings: u32,
     position: usize,
     out: &mut [u64; 5],
 )
-    ensures { λ _. ⌜ AnnotatedWords (record { confusing = «allow_confusing» }) (now (text .entry)) position (now (out .exit)) ⌝ }
+    ensures { λ _. ⌜ AnnotatedWords (settingsOf settings) (now (text .entry)) position (now (out .exit)) ⌝ }
 {
-    *out = words::found_words(lexer::annotation(text, allow_confusing, position));
+    *out = c_words::found_words(lex_calls::annotation(
+        text,
+        c_asked::settings_of(settings),
+        position,
+    ));
 }
 
 // The listing: why it stopped in five words, how many tokens it handed out, and the position.
 #[no_mangle]
 pub extern "C" fn thallusweb_list(
     text: &[u8],
-    allow_confusing: bool,
+    settings: u32,
     start: usize,
     budget: usize,
     list: &mut [u8],
     out: &mut [u64; 7],
 )
-    ensures { λ _. ⌜ ListedWords (record { confusing = «allow_confusing» }) (now (text .entry)) start budget (now (list .entry)) (now (out .exit)) (now (list .exit)) ⌝ }
+    ensures { λ _. ⌜ ListedWords (settingsOf settings) (now (text .entry)) start budget (now (list .entry)) (now (out .exit)) (now (list .exit)) ⌝ }
 {
-    *out = words::listed_words(listing::list(text, allow_confusing, start, budget, list));
+    *out = c_words::listed_words(lex_list::list(
+        text,
+        c_asked::settings_of(settings),
+        start,
+        budget,
+        list,
+    ));
 }
 
 // A reader's first call, by the reader's number and the token's three words.
@@ -67,10 +89,12 @@ pub extern "C" fn thallusweb_read(
 )
     ensures { λ _. ⌜ ReadWords reader (now (text .entry)) (now (token .entry)) (now (buffer .entry)) (now (out .exit)) (now (buffer .exit)) ⌝ }
 {
-    *out = read_words::reading_words(
-        token[1] as usize,
-        reading::read(text, reader, asked::token_of(*token), buffer),
-    );
+    *out = c_read_words::reading_words(read_call::read(
+        text,
+        reader,
+        c_asked::token_of(*token),
+        buffer,
+    ));
 }
 
 // An integer's sign.
@@ -78,10 +102,10 @@ pub extern "C" fn thallusweb_read(
 pub extern "C" fn thallusweb_integer_sign(text: &[u8], token: &[u64; 3], out: &mut [u64; 5])
     ensures { λ _. ⌜ IntegerSignWords (now (text .entry)) (now (token .entry)) (now (out .exit)) ⌝ }
 {
-    *out = read_words::integer_sign_words(
-        token[1] as usize,
-        integers::integer_sign(text, asked::token_of(*token)),
-    );
+    *out = c_read_words::integer_sign_words(read_integer::integer_sign(
+        text,
+        c_asked::token_of(*token),
+    ));
 }
 
 // Whether a float is negative.
@@ -89,18 +113,15 @@ pub extern "C" fn thallusweb_integer_sign(text: &[u8], token: &[u64; 3], out: &m
 pub extern "C" fn thallusweb_float_sign(text: &[u8], token: &[u64; 3], out: &mut [u64; 5])
     ensures { λ _. ⌜ FloatSignWords (now (text .entry)) (now (token .entry)) (now (out .exit)) ⌝ }
 {
-    *out = read_words::float_sign_words(
-        token[1] as usize,
-        floats::float_sign(text, asked::token_of(*token)),
-    );
+    *out = c_read_words::float_sign_words(read_float::float_sign(text, c_asked::token_of(*token)));
 }
 
 // A reader's second call, given the answer of the first.
 #[no_mangle]
 pub extern "C" fn thallusweb_part(text: &[u8], buffer: &[u8], answer: &[u64; 5], out: &mut [u64; 3])
-    ensures { λ _. ⌜ now (out .exit) ≡ partOf (now (text .entry)) (now (buffer .entry)) (now (answer .entry)) ⌝ }
+    ensures { λ _. ⌜ PartWords (now (text .entry)) (now (buffer .entry)) (now (answer .entry)) (now (out .exit)) ⌝ }
 {
-    *out = spots::part_of(text, buffer, *answer);
+    *out = c_spots::part_of(text, buffer, *answer);
 }
 
 // The message of the error that has the number and the values.
@@ -114,10 +135,7 @@ pub extern "C" fn thallusweb_message(
 )
     ensures { λ _. ⌜ MessageWords number first second (now (buffer .entry)) (now (out .exit)) (now (buffer .exit)) ⌝ }
 {
-    *out = read_words::message_words(messages::message(
-        asked::refusal_of(number, first, second),
-        buffer,
-    ));
+    *out = c_read_words::message_words(messages::message_of(number, first, second, buffer));
 }
 
 // The place counter, line and column, moved over the bytes of a token; false, and unchanged, where that is refused by 35.
@@ -125,5 +143,5 @@ pub extern "C" fn thallusweb_message(
 pub extern "C" fn thallusweb_move(place: &mut [u32; 2], bytes: &[u8]) -> bool
     ensures { λ r. ⌜ MovedWords (now (place .entry)) (now (bytes .entry)) r (now (place .exit)) ⌝ }
 {
-    spots::moved(place, bytes)
+    c_spots::moved(place, bytes)
 }

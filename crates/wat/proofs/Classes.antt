@@ -8,11 +8,9 @@ use lib.Dec.{eqb}
 use borrow.Author.Tests.{ne-eqb}
 use Rattle.wat.specs.Bytes.{bytes, between, has}
 use Rattle.wat.specs.Chars.{idchar, confusing}
-use Rattle.wat.proofs.Scalars.{between-over, between-under, below}
-use Rattle.wat.proofs.Utf8Laws.{never}
+use Rattle.wat.proofs.Basics.{between-over, between-under, below, never, has-every}
 use Rattle.wat.proofs.Shapes.{false-of}
 use Rattle.wat.proofs.Runs.{idchar-ascii}
-use Rattle.wat.proofs.Elements.{has-every}
 
 abbrev same : Bool → Bool → Bool
 same true b = b

@@ -14,10 +14,9 @@ use Rattle.wat.specs.Utf8.{Char, scalar, WellFormed}
 use Rattle.wat.specs.Chars.{newline, control}
 use Rattle.wat.specs.Comments.{LineComment, Block}
 use Rattle.wat.specs.Strings.{Hex, HexNum, escapes, Elem}
-use Rattle.wat.proofs.Hexnums.{differ}
-use Rattle.wat.proofs.Utf8Laws.{char-full, chars-meet, never}
-use Rattle.wat.proofs.Scalars.{alone-at, ascii, below, after-ascii}
-use Rattle.wat.proofs.Elements.{AllPairs, pairs-listed, cut-off}
+use Rattle.wat.proofs.Basics.{differ, never, below, AllPairs, pairs-listed, cut-off}
+use Rattle.wat.proofs.Utf8Laws.{char-full, chars-meet}
+use Rattle.wat.proofs.Scalars.{alone-at, ascii, after-ascii}
 use Rattle.wat.proofs.Shapes.{each-append}
 use Rattle.wat.proofs.Boundaries.{High, char-high, cut, last-block}
 use Rattle.wat.proofs.Blocks.{block-some}
@@ -198,8 +197,8 @@ pub data Stringelem : List ℕ → List ℕ → Type 0 where
 
 hexnum-ours : {ds : List ℕ} {n : ℕ} → Hexnum ds n → HexNum lenient ds n
 hexnum-ours (Hexnum.one h) = HexNum.one h
-hexnum-ours (Hexnum.more r h) = HexNum.more 0 (hexnum-ours r) tt h
-hexnum-ours (Hexnum.gap r h) = HexNum.more 1 (hexnum-ours r) tt h
+hexnum-ours (Hexnum.more r h) = HexNum.more 0 (hexnum-ours r) h
+hexnum-ours (Hexnum.gap r h) = HexNum.more 1 (hexnum-ours r) h
 
 control-not : (n : ℕ) → 0x20 ≤ n → (n ≡ 0x7F → ⊥) → control n ≡ false
 unfolding control
@@ -218,10 +217,10 @@ standard-element (Stringelem.char Stringchar.backslash) = Elem.letter (List·Mem
 standard-element (Stringelem.char (Stringchar.unicode r ch)) = Elem.unicode (hexnum-ours r) ch
 standard-element (Stringelem.pair h l) = Elem.pair h l
 
--- and what we have the standard has, where no two underscores stand together in a `\u{..}`: document 01's one difference
+-- and what we have the standard has, where no two underscores stand together in a `\u{..}`: rule 5's one difference
 abbrev pub Single : {ds : List ℕ} {n : ℕ} → HexNum lenient ds n → Type 0
 Single (HexNum.one h) = Unit {0}
-Single (HexNum.more k r g h) = (k ≤ 1) × Single r
+Single (HexNum.more k r h) = (k ≤ 1) × Single r
 
 abbrev pub Singles : {s v : List ℕ} → Elem lenient s v → Type 0
 Singles (Elem.raw c n p q h) = Unit {0}
@@ -231,9 +230,9 @@ Singles (Elem.unicode r c) = Single r
 
 ours-hexnum : {ds : List ℕ} {n : ℕ} (r : HexNum lenient ds n) → Single r → Hexnum ds n
 ours-hexnum (HexNum.one h) s = Hexnum.one h
-ours-hexnum (HexNum.more zero r g h) s = Hexnum.more (ours-hexnum r (s .1)) h
-ours-hexnum (HexNum.more (suc zero) r g h) s = Hexnum.gap (ours-hexnum r (s .1)) h
-ours-hexnum (HexNum.more (suc (suc k)) r g h) s = absurd (omega (arith, s .0))
+ours-hexnum (HexNum.more zero r h) s = Hexnum.more (ours-hexnum r (s .1)) h
+ours-hexnum (HexNum.more (suc zero) r h) s = Hexnum.gap (ours-hexnum r (s .1)) h
+ours-hexnum (HexNum.more (suc (suc k)) r h) s = absurd (omega (arith, s .0))
 
 lettered : AllPairs (λ e v. Stringelem (0x5C ∷ e ∷ []) (v ∷ [])) escapes
 unfolding escapes

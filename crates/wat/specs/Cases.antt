@@ -1,8 +1,7 @@
--- Document 01's numbers and values for each case of the enums: kinds, errors and refusals.
+-- The number and the values of each case of the enums: kinds, errors and refusals (docs/RULES.md).
 use Prim.Native.Nat.{ℕ, _+_}
 use mathlib.Core.Bool.{Bool, true, false}
 use mathlib.Core.List.{List, [], _∷_}
-use mathlib.Core.Option.{Option, none, some}
 use Rattle.wat.specs.declared.{Sign.Sign, FloatKind.FloatKind, TokenKind.TokenKind, LexError.LexError, Refusal.Refusal}
 use Rattle.wat.specs.declared.Sign.the-variants.{Unsigned, Plus, Minus}
 use Rattle.wat.specs.declared.FloatKind.the-variants.{Inf, Nan, NanVal, Normal}
@@ -73,15 +72,3 @@ listFull = 33
 
 abbrev pub counterFull : ℕ
 counterFull = 35
-
--- where a reader's refusal stands: 2 at valid-up-to, 1, 3, 4 and 22 to 24 at the token's offset, 30 to 32 and 34 nowhere
-abbrev pub placeIn : ℕ → Refusal → Option ℕ
-placeIn offset refusal.TooLong = some offset
-placeIn offset (refusal.NotUtf8 v e) = some v
-placeIn offset refusal.PastEnd = some offset
-placeIn offset refusal.InsideCharacter = some offset
-placeIn offset (refusal.Lexical e) = some offset
-placeIn offset refusal.NotThatToken = none
-placeIn offset refusal.NotThatKind = none
-placeIn offset refusal.BufferTooShort = none
-placeIn offset refusal.NoMessage = none

@@ -1,5 +1,6 @@
-//! One text, asked of both sides in every way: at every position, with both flags, listed with small and large budgets
-//! and lists; `reading.rs` asks the rest. What document 01 adds to the Rust, the refusals 1 to 4, is expected by its rule.
+//! One text, asked of both sides in every way: at every position, with both flags, each alone in the settings word and beside
+//! ignored bits, listed with small and large budgets and lists; `reading.rs` asks the rest. What docs/RULES.md adds to the Rust,
+//! the refusals 1 to 4, is expected by its rule.
 
 use crate::ours::{self, Found, Listed, Refused, Stop};
 use oracle::listing::{self, RECORD};
@@ -28,6 +29,18 @@ pub struct Counts {
 /// The bytes around a lent list, and what it holds before.
 pub const MARGIN: usize = 16;
 pub const CANARY: u8 = 0xa5;
+
+/// Some of the ignored bits, at least one, by the text's number: the texts do not depend on them.
+fn ignored(number: u64) -> u32 {
+    let shift = ours::IGNORED.trailing_zeros();
+    (1 + Texts::new(number).below((ours::IGNORED >> shift) as usize) as u32) << shift
+}
+
+/// The settings words that say a flag: its bit alone, and beside ignored ones.
+fn words(flag: bool, ignored: u32) -> [u32; 2] {
+    let alone = if flag { ours::ALLOW_CONFUSING } else { 0 };
+    [alone, alone | ignored]
+}
 
 fn refused(number: u64, values: [u64; 2], place: usize) -> Refused {
     Refused { number, values, place: place as u64 }
@@ -117,18 +130,19 @@ impl Counts {
         let checked = ours::utf8_check(bytes);
         let expected = oracle::utf8(bytes).map(|_| ()).map_err(|numbers| numbers.map(u64::from));
         assert_eq!(checked, expected, "UTF-8 check of {}", shown(bytes));
+        let ignored = ignored(self.texts);
         for flag in [false, true] {
             for position in 0..bytes.len() + 3 {
-                self.token(bytes, flag, position);
+                self.token(bytes, flag, ignored, position);
             }
             let start = chance.below(bytes.len() + 2);
             let budget = chance.below(5);
             let room = chance.below(4 * RECORD);
-            self.listing(bytes, flag, 0, usize::MAX, RECORD * bytes.len());
-            self.listing(bytes, flag, start, budget, room);
+            self.listing(bytes, flag, ignored, 0, usize::MAX, RECORD * bytes.len());
+            self.listing(bytes, flag, ignored, start, budget, room);
         }
         for position in 0..bytes.len() {
-            match ours::parse(bytes, true, position).0 {
+            match ours::parse(bytes, ours::ALLOW_CONFUSING, position).0 {
                 Found::Token { kind, offset, len } => self.readers(bytes, [kind, offset, len], chance),
                 Found::Refused(refused) => {
                     self.message(refused.number, refused.values, 64);
@@ -140,30 +154,36 @@ impl Counts {
         self.made_up(bytes, chance);
     }
 
-    /// Compares one token and the annotation at a position.
-    fn token(&mut self, bytes: &[u8], flag: bool, position: usize) {
-        let (found, after) = ours::parse(bytes, flag, position);
-        let expected = expected_token(bytes, flag, position);
-        assert_eq!((found, after), expected, "token of {} at {position}, flag {flag}", shown(bytes));
-        if let Found::Refused(refused) = found {
+    /// Compares one token and the annotation at a position, asked with both words of the flag.
+    fn token(&mut self, bytes: &[u8], flag: bool, ignored: u32, position: usize) {
+        let token = expected_token(bytes, flag, position);
+        let annotation = expected_annotation(bytes, flag, position);
+        for settings in words(flag, ignored) {
+            let asked = || format!("of {} at {position}, settings {settings:#x}", shown(bytes));
+            assert_eq!(ours::parse(bytes, settings, position), token, "token {}", asked());
+            assert_eq!(ours::annotation(bytes, settings, position), annotation, "annotation {}", asked());
+        }
+        if let Found::Refused(refused) = token.0 {
             *self.refusals.entry(refused.number).or_default() += 1;
         }
         self.tokens += 1;
-        let found = ours::annotation(bytes, flag, position);
-        let expected = expected_annotation(bytes, flag, position);
-        assert_eq!(found, expected, "annotation of {} at {position}, flag {flag}", shown(bytes));
         self.annotations += 1;
     }
 
-    /// Compares a listing: its report, every byte of the list, and the bytes around it.
-    pub fn listing(&mut self, bytes: &[u8], flag: bool, start: usize, budget: usize, room: usize) {
-        let mut list = vec![CANARY; room + 2 * MARGIN];
-        let mut expected_list = list.clone();
+    /// Compares a listing, asked with both words of the flag: its report, every byte of the list, and the bytes around it.
+    pub fn listing(&mut self, bytes: &[u8], flag: bool, ignored: u32, start: usize, budget: usize, room: usize) {
+        let mut expected_list = vec![CANARY; room + 2 * MARGIN];
         let expected = expected_listing(bytes, flag, start, budget, &mut expected_list[MARGIN..MARGIN + room]);
-        let listed = ours::list(bytes, flag, start, budget, &mut list[MARGIN..MARGIN + room]);
-        let asked = || format!("listing of {} from {start}, flag {flag}, budget {budget}, room {room}", shown(bytes));
-        assert_eq!(listed, expected, "{}", asked());
-        assert!(list == expected_list, "bytes of the list: {}", asked());
+        for settings in words(flag, ignored) {
+            let mut list = vec![CANARY; room + 2 * MARGIN];
+            let listed = ours::list(bytes, settings, start, budget, &mut list[MARGIN..MARGIN + room]);
+            let asked = || {
+                let bytes = shown(bytes);
+                format!("listing of {bytes} from {start}, settings {settings:#x}, budget {budget}, room {room}")
+            };
+            assert_eq!(listed, expected, "{}", asked());
+            assert!(list == expected_list, "bytes of the list: {}", asked());
+        }
         self.listings += 1;
     }
 }

@@ -72,15 +72,15 @@ fn every(symbols: &[&[u8]], most: usize, text: &mut Vec<u8>, each: &mut impl FnM
 fn limits(counts: &mut Counts) {
     let mut text = vec![b' '; 16_777_217];
     let long = ours::Refused { number: 1, values: [0, 0], place: 3 };
-    assert_eq!(ours::parse(&text, false, 3), (ours::Found::Refused(long), 3));
-    assert_eq!(ours::annotation(&text, false, 3), ours::Found::Refused(long));
+    assert_eq!(ours::parse(&text, 0, 3), (ours::Found::Refused(long), 3));
+    assert_eq!(ours::annotation(&text, 0, 3), ours::Found::Refused(long));
     let read = ours::read(&text, 0, [3, 3, 1], &mut []);
     assert_eq!(read, ours::Reading::Refused(long));
     let mut list = [7; 12];
-    let listed = ours::list(&text, false, 3, 9, &mut list);
+    let listed = ours::list(&text, 0, 3, 9, &mut list);
     assert_eq!((listed.stop, listed.count, listed.position, list), (ours::Stop::Refused(long), 0, 3, [7; 12]));
     text.pop();
-    counts.listing(&text, false, 0, usize::MAX, 12);
+    counts.listing(&text, false, ours::IGNORED, 0, usize::MAX, 12);
 }
 
 /// Compares the texts of one share: every `SHARES`th of those that are listed, and its part of the random ones.

@@ -2,12 +2,12 @@
 
 unsafe extern "C" {
     fn thallusweb_utf8_check(text: *const u8, len: usize, out: *mut u64);
-    fn thallusweb_parse(text: *const u8, len: usize, allow_confusing: bool, position: usize, out: *mut u64);
-    fn thallusweb_annotation(text: *const u8, len: usize, allow_confusing: bool, position: usize, out: *mut u64);
+    fn thallusweb_parse(text: *const u8, len: usize, settings: u32, position: usize, out: *mut u64);
+    fn thallusweb_annotation(text: *const u8, len: usize, settings: u32, position: usize, out: *mut u64);
     fn thallusweb_list(
         text: *const u8,
         len: usize,
-        allow_confusing: bool,
+        settings: u32,
         start: usize,
         budget: usize,
         list: *mut u8,
@@ -36,6 +36,12 @@ unsafe extern "C" {
     fn thallusweb_message(number: u64, first: u64, second: u64, buffer: *mut u8, buffer_len: usize, out: *mut u64);
     fn thallusweb_move(place: *mut u32, bytes: *const u8, len: usize) -> bool;
 }
+
+/// The bit of a settings word by which confusing characters are allowed.
+pub const ALLOW_CONFUSING: u32 = 1;
+
+/// The bits of a settings word that are ignored. 2 is left out: it is kept for a setting to come.
+pub const IGNORED: u32 = 0xffff_fffc;
 
 /// A token as a call takes it: its kind, offset and length.
 pub type Words = [u64; 3];
@@ -115,20 +121,20 @@ pub fn utf8_check(text: &[u8]) -> Result<(), [u64; 2]> {
 }
 
 /// One token at a position, and the position afterwards.
-pub fn parse(text: &[u8], allow_confusing: bool, position: usize) -> (Found, u64) {
-    let call = |out| unsafe { thallusweb_parse(text.as_ptr(), text.len(), allow_confusing, position, out) };
+pub fn parse(text: &[u8], settings: u32, position: usize) -> (Found, u64) {
+    let call = |out| unsafe { thallusweb_parse(text.as_ptr(), text.len(), settings, position, out) };
     let [a, b, c, d, e, after] = words(call);
     (found([a, b, c, d, e]), after)
 }
 
-pub fn annotation(text: &[u8], allow_confusing: bool, position: usize) -> Found {
-    found(words(|out| unsafe { thallusweb_annotation(text.as_ptr(), text.len(), allow_confusing, position, out) }))
+pub fn annotation(text: &[u8], settings: u32, position: usize) -> Found {
+    found(words(|out| unsafe { thallusweb_annotation(text.as_ptr(), text.len(), settings, position, out) }))
 }
 
-pub fn list(text: &[u8], allow_confusing: bool, start: usize, budget: usize, list: &mut [u8]) -> Listed {
+pub fn list(text: &[u8], settings: u32, start: usize, budget: usize, list: &mut [u8]) -> Listed {
     let call = |out| unsafe {
         let (list, room) = (list.as_mut_ptr(), list.len());
-        thallusweb_list(text.as_ptr(), text.len(), allow_confusing, start, budget, list, room, out)
+        thallusweb_list(text.as_ptr(), text.len(), settings, start, budget, list, room, out)
     };
     let [why, number, place, first, second, count, position] = words(call);
     let stop = match (why, number) {

@@ -6,7 +6,7 @@ use std::io::{self, Write};
 use std::process::{Command, Stdio};
 use std::thread;
 
-/// Document 01's rows, and a text for each error and each last line.
+/// The rows on both sides of the line, and a text for each error and each last line.
 const ROWS: &[&str] = &[
     "",
     "(;)",

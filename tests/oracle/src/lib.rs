@@ -1,10 +1,10 @@
-//! What the Rust original says of a text, in the numbers of document 01.
+//! What the Rust original says of a text, in the numbers of docs/RULES.md.
 //!
 //! [`lexer`] is docs/src/src/lexer.rs, unchanged; [`Error`] and [`token`] stand in for the rest of its crate. [`Oracle`]
 //! asks it for one token, an annotation or a listing, and for what its readers make of a token.
 //!
 //! A position must stand between two characters of the text, or at its end: elsewhere the original panics, where
-//! document 01 refuses by 3 and 4.
+//! rule 1 refuses by 3 and 4.
 
 #[rustfmt::skip]
 #[allow(clippy::all)]

@@ -1,4 +1,4 @@
-//! Document 01's listing call, over the original's `parse`.
+//! The listing call (docs/RULES.md, 10), over the original's `parse`.
 
 use crate::{Answer, Fault, Oracle};
 

@@ -12,7 +12,7 @@ use std::io::{self, Read, Write};
 use std::process::ExitCode;
 
 const HELP: &str = "\
-oracle: what the Rust original says of texts, in the numbers of document 01
+oracle: what the Rust original says of texts, in the numbers of docs/RULES.md
 
   oracle tokens [--allow-confusing]
       prints the tokens of standard input as the program wat-tokens does

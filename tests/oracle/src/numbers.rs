@@ -1,4 +1,4 @@
-//! Document 01's numbers of kinds and of errors, and its names of kinds.
+//! The numbers of kinds and of errors, and the names of kinds (docs/RULES.md).
 
 use crate::lexer::{FloatKind, IntegerKind, LexError, Lexer, TokenKind};
 use crate::{Answer, Oracle};
@@ -140,12 +140,12 @@ pub fn of_utf8_error(error: &Utf8Error) -> [u32; 2] {
     [valid, error.error_len().unwrap_or(0) as u32]
 }
 
-/// The original's message for an error; none where document 01 refuses by 34.
+/// The original's message for an error; none where rule 13 refuses by 34.
 pub fn message(number: u8, data: [u32; 2]) -> Option<String> {
     error(number, data).map(|error| error.to_string())
 }
 
-/// The error with that number and data, where document 01 has a message for it.
+/// The error with that number and data, where rule 13 has a message for it.
 fn error(number: u8, data: [u32; 2]) -> Option<LexError> {
     let char = |i: usize| char::from_u32(data[i]);
     Some(match number {

@@ -43,7 +43,7 @@ pub struct Float<'a> {
 }
 
 /// The readers, each for a token of this text. All but `src` give nothing for a token of another kind than theirs: there
-/// the original panics or gives nonsense, and document 01 refuses by 31.
+/// the original panics or gives nonsense, and rule 11 refuses by 31.
 impl<'a> Oracle<'a> {
     /// The token's own bytes.
     pub fn src(&self, token: &Token) -> &'a str {

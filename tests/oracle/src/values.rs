@@ -1,4 +1,4 @@
-//! What the readers leave of a token, by their numbers (include/thallusweb.h), as document 01 has it: a part of the text where the
+//! What the readers leave of a token, by their numbers (include/thallusweb.h), as rule 11 has it: a part of the text where the
 //! original's `Cow` is borrowed, a copy where it is owned.
 
 use crate::readers::Token;

@@ -1,4 +1,4 @@
-//! Answers for one token: document 01's tables, and the texts on which a reading of it most easily goes wrong.
+//! Answers for one token: the rules of docs/RULES.md, and the texts on which a reading of them most easily goes wrong.
 
 use Flag::{Either, Off, On};
 use Said::{End, Fault, Token};
@@ -31,7 +31,7 @@ enum Flag {
     Either,
 }
 
-/// An answer in document 01's numbers: a token's kind and length; an error's number, data and place.
+/// An answer in numbers: a token's kind and length; an error's number, data and place.
 #[derive(Clone, Copy, Debug, PartialEq)]
 enum Said {
     End,

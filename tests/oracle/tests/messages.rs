@@ -137,7 +137,7 @@ fn messages_of_readers() {
     }
 }
 
-/// 15 is built nowhere: it has a number, and document 01 refuses a message for it.
+/// 15 is built nowhere: it has a number, and rule 13 refuses a message for it.
 #[test]
 fn an_invalid_digit() {
     assert_eq!(of_error(&LexError::InvalidDigit('x')), (15, ['x'.into(), 0]));

@@ -1,4 +1,4 @@
-//! The program: its output for `tokens` is that of document 01's `wat-tokens`.
+//! The program: its output for `tokens` is that of `wat-tokens` (docs/RULES.md, 15).
 
 use std::io::Write;
 use std::process::{Command, Stdio};

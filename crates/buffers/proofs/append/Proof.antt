@@ -4,6 +4,10 @@ use Rattle.buffers.proofs.AddedLaws.{copied-all}
 use Rattle.buffers.proofs.append.Statement.{statement}
 use Rattle.buffers.proofs.append.Tie as tie
 
+-- the places: the function's start
+abbrev start : tie.After-copy → tie.Start
+start c = c .before .before .before .before
+
 copy-requires : tie.Need-copy-requires
 copy-requires c κs = search needs
 
@@ -15,8 +19,8 @@ same-length c = search needs
 
 returns : tie.Need-returns
 returns c =
-    let a = c .before .before .before .before .before .before .args in
-    copied-all _ _ _ (a .text .now) (c .before .before .copy .ensures)
+    let copy = c .before .before in
+    copied-all _ _ _ (start copy .args .text .now) (copy .copy .ensures)
 
 pub append-spec : {M : Type 1} → statement M
 append-spec = tie.close (tie.spec copy-requires add-result same-length returns)

@@ -1,4 +1,5 @@
--- `buffers::copy` meets its contract. The loop's invariant: the first k bytes of what is to be copied stand in the buffer. Assumes nothing.
+-- `buffers::copy` meets its contract. The loop's invariant: the first k bytes of what is to be copied stand in the buffer.
+-- Assumes nothing.
 use Prim.Native.Nat.{_-_, _≤_}
 use mathlib.Core.Path.{_≡_, ap, _∙_}
 use native.Mathlib.Omega.{arith}
@@ -13,6 +14,10 @@ Inv-loop dst₀ to src from n k₀ dst k = (k ≤ n) × (length dst ≡ length d
 
 abbrev μ-loop : tie.MeasureT-loop
 μ-loop dst₀ to src from n k₀ dst k = n - k
+
+-- the places: the function's start, from where a round begins
+abbrev start : tie.At-loop Inv-loop μ-loop → tie.Start Inv-loop μ-loop
+start c = c .before
 
 loop-holds : tie.Need-loop-holds Inv-loop μ-loop
 loop-holds c =
@@ -39,20 +44,22 @@ loop-less c = omega arith
 
 loop-again : tie.Need-loop-again Inv-loop μ-loop
 loop-again c =
-    let a = c .before .before .before .args in
+    let a = start (c .before .before) .args in
     let l = c .before .before .loop in
-    (omega arith, simp length-set (omega arith), copy-more (a .dst .now) (l .dst) (a .to) (a .src .now) (a .from) (l .k) (omega arith) (omega arith) (l .inv .2))
+    let more = copy-more (a .dst .now) (l .dst) (a .to) (a .src .now) (a .from) (l .k) (omega arith) (omega arith) (l .inv .2) in
+    (omega arith, simp length-set (omega arith), more)
 
 same-length : tie.Need-same-length Inv-loop μ-loop
 same-length c = c .before .loop .inv .1
 
 returns : tie.Need-returns Inv-loop μ-loop
 returns c =
-    let a = c .before .before .args in
+    let a = start (c .before) .args in
     let l = c .before .loop in
     let q : l .k ≡ a .n = omega arith in
-    put-copy (a .dst .now) (l .dst) (a .to) (drop (a .from) (a .src .now)) (a .n) (omega arith) (omega (arith, length-drop (a .from) (a .src .now)))
-    (l .inv .2 ∙ ap (paste (a .dst .now) (a .to) (drop (a .from) (a .src .now))) q)
+    let d = drop (a .from) (a .src .now) in
+    put-copy (a .dst .now) (l .dst) (a .to) d (a .n) (omega arith) (omega (arith, length-drop (a .from) (a .src .now)))
+    (l .inv .2 ∙ ap (paste (a .dst .now) (a .to) d) q)
 
 pub copy-spec : {M : Type 1} → statement M
 copy-spec =

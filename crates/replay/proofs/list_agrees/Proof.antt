@@ -16,8 +16,8 @@ wide-requires c κs = search needs
 returns : tie.Need-returns
 returns c = search needs
 
-shared-slice-read-list : tie.Need-shared-slice-read-list
-shared-slice-read-list c = search needs
+row-settings-requires : tie.Need-row-settings-requires
+row-settings-requires c κs = search needs
 
 number-at-requires : tie.Need-number-at-requires
 number-at-requires c κs = search needs
@@ -50,7 +50,7 @@ list-agrees-spec =
     shared-slice-read-wide
     wide-requires
     returns
-    shared-slice-read-list
+    row-settings-requires
     number-at-requires
     number-at-requires-2
     array-borrow-prefix-list

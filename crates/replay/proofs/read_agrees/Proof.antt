@@ -25,9 +25,6 @@ number-at-requires-2 c κs = search needs
 number-at-requires-3 : tie.Need-number-at-requires-3
 number-at-requires-3 c κs = search needs
 
-array-read-reading-words : tie.Need-array-read-reading-words
-array-read-reading-words c = search needs
-
 shared-slice-read-wide-2 : tie.Need-shared-slice-read-wide-2
 shared-slice-read-wide-2 c = search needs
 
@@ -68,7 +65,6 @@ read-agrees-spec =
     number-at-requires
     number-at-requires-2
     number-at-requires-3
-    array-read-reading-words
     shared-slice-read-wide-2
     wide-requires-2
     token-of-requires

@@ -4,9 +4,6 @@ use borrow.Author.Needs.{needs}
 use Rattle.thallusweb.proofs.thallusweb_float_sign.Statement.{statement}
 use Rattle.thallusweb.proofs.thallusweb_float_sign.Tie as tie
 
-element-copy-out-float-sign-words : tie.Need-element-copy-out-float-sign-words
-element-copy-out-float-sign-words c = search needs
-
 token-of-requires : tie.Need-token-of-requires
 token-of-requires c κs = search needs
 
@@ -23,7 +20,6 @@ pub thallusweb-float-sign-spec : {M : Type 1} → statement M
 thallusweb-float-sign-spec =
     tie.close
     (tie.spec
-    element-copy-out-float-sign-words
     token-of-requires
     float-sign-requires
     float-sign-words-requires

@@ -4,9 +4,6 @@ use borrow.Author.Needs.{needs}
 use Rattle.thallusweb.proofs.thallusweb_integer_sign.Statement.{statement}
 use Rattle.thallusweb.proofs.thallusweb_integer_sign.Tie as tie
 
-element-copy-out-integer-sign-words : tie.Need-element-copy-out-integer-sign-words
-element-copy-out-integer-sign-words c = search needs
-
 token-of-requires : tie.Need-token-of-requires
 token-of-requires c κs = search needs
 
@@ -23,7 +20,6 @@ pub thallusweb-integer-sign-spec : {M : Type 1} → statement M
 thallusweb-integer-sign-spec =
     tie.close
     (tie.spec
-    element-copy-out-integer-sign-words
     token-of-requires
     integer-sign-requires
     integer-sign-words-requires

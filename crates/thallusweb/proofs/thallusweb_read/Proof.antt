@@ -4,9 +4,6 @@ use borrow.Author.Needs.{needs}
 use Rattle.thallusweb.proofs.thallusweb_read.Statement.{statement}
 use Rattle.thallusweb.proofs.thallusweb_read.Tie as tie
 
-element-copy-out-reading-words : tie.Need-element-copy-out-reading-words
-element-copy-out-reading-words c = search needs
-
 token-of-requires : tie.Need-token-of-requires
 token-of-requires c κs = search needs
 
@@ -26,7 +23,6 @@ pub thallusweb-read-spec : {M : Type 1} → statement M
 thallusweb-read-spec =
     tie.close
     (tie.spec
-    element-copy-out-reading-words
     token-of-requires
     read-requires
     reading-words-requires

@@ -1,2 +1,0 @@
-mod AskedLaws
-pub mod OneAsked

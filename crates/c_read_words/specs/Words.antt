@@ -1,0 +1,39 @@
+-- The answers of the readers and of the messages as words, for C: the layout that include/thallusweb.h explains.
+use Prim.Native.Nat.{ℕ}
+use mathlib.Core.List.{List, [], _∷_}
+use Rattle.wat.specs.declared.{Sign.Sign}
+use Rattle.wat_values.specs.declared.{Reading.Reading, IntegerSign.IntegerSign, FloatSign.FloatSign}
+use Rattle.messages.specs.declared.Told.{Told}
+use Rattle.wat.specs.declared.Sign.the-variants.{Unsigned, Plus, Minus}
+use Rattle.wat_values.specs.declared.Reading.the-variants as reading
+use Rattle.wat_values.specs.declared.IntegerSign.the-variants as integer
+use Rattle.wat_values.specs.declared.FloatSign.the-variants as float
+use Rattle.messages.specs.declared.Told.the-variants as message
+use Rattle.wat.specs.Cases.{flag}
+use Rattle.c_words.specs.Words.{refusedWords}
+
+-- what a reader answers of a token: 0 absent, 1 a part of the text, 2 a refusal, 3 a part of the buffer
+abbrev pub readingWords : Reading → List ℕ
+readingWords reading.Absent = 0 ∷ 0 ∷ 0 ∷ 0 ∷ 0 ∷ []
+readingWords (reading.Text start len) = 1 ∷ start ∷ len ∷ 0 ∷ 0 ∷ []
+readingWords (reading.Refused r p) = refusedWords r p
+readingWords (reading.Buffer start len) = 3 ∷ start ∷ len ∷ 0 ∷ 0 ∷ []
+
+abbrev pub signWord : Sign → ℕ
+signWord Unsigned = 0
+signWord Plus = 1
+signWord Minus = 2
+
+abbrev pub integerSignWords : IntegerSign → List ℕ
+integerSignWords (integer.Refused r p) = refusedWords r p
+integerSignWords (integer.Sign s) = 1 ∷ signWord s ∷ 0 ∷ 0 ∷ 0 ∷ []
+
+abbrev pub floatSignWords : FloatSign → List ℕ
+floatSignWords (float.Refused r p) = refusedWords r p
+floatSignWords float.Absent = 0 ∷ 0 ∷ 0 ∷ 0 ∷ 0 ∷ []
+floatSignWords (float.Negative n) = 1 ∷ flag n 1 ∷ 0 ∷ 0 ∷ 0 ∷ []
+
+-- a message of so many bytes, or a refusal, which has no place
+abbrev pub messageWords : Told → List ℕ
+messageWords (message.Written n) = 1 ∷ n ∷ 0 ∷ 0 ∷ 0 ∷ []
+messageWords (message.Refused r) = refusedWords r 0

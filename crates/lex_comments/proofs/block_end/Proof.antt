@@ -1,0 +1,128 @@
+-- The comment ends, counted from each place that is reached, where it ends from its start. Assumes nothing.
+use Prim.Native.Nat.{_-_}
+use native.Mathlib.Omega.{arith}
+use lib.ListN.{length}
+use Rattle.lex_comments.proofs.BlockLaws.{Inside, inside-start, inside-plain, inside-none, inside-open, inside-paren, inside-close, inside-last, inside-semicolon}
+use Rattle.lex_comments.proofs.block_end.Statement.{statement}
+use Rattle.lex_comments.proofs.block_end.Tie as tie
+
+abbrev Inv-loop : tie.InvT-loop
+Inv-loop s at level₀ i₀ level i = Inside s at i level
+
+abbrev μ-loop : tie.MeasureT-loop
+μ-loop s at level₀ i₀ level i = length s - i
+
+loop-holds : tie.Need-loop-holds Inv-loop μ-loop
+loop-holds c = inside-start _ _ (c .before .pre)
+
+memchr2-requires : tie.Need-memchr2-requires Inv-loop μ-loop
+memchr2-requires c κs = (omega arith, omega arith)
+
+-- at the next byte that may begin a mark
+reached :
+    (c : tie.After-memchr2 Inv-loop μ-loop) → let a = c .before .before .before .before .args in
+    Inside (a .s .now) (a .at) (c .memchr2 .result) (c .before .before .loop .level)
+reached c = let l = c .before .before .loop in inside-plain _ _ (l .i) (l .level) (c .memchr2 .result) (l .inv) (c .memchr2 .ensures .passed)
+
+sub-if1 : tie.Need-sub-if1 Inv-loop μ-loop
+sub-if1 c = omega arith
+
+returns : tie.Need-returns Inv-loop μ-loop
+returns c = inside-none _ _ _ _ (reached (c .before)) (omega arith)
+
+add-b : tie.Need-add-b Inv-loop μ-loop
+add-b c = omega arith
+
+shared-slice-read-b : tie.Need-shared-slice-read-b Inv-loop μ-loop
+shared-slice-read-b c = omega arith
+
+shared-slice-read-if2 : tie.Need-shared-slice-read-if2 Inv-loop μ-loop
+shared-slice-read-if2 c = omega arith
+
+add-level : tie.Need-add-level Inv-loop μ-loop
+add-level c = omega arith
+
+add-i : tie.Need-add-i Inv-loop μ-loop
+add-i c = omega arith
+
+loop-less : tie.Need-loop-less Inv-loop μ-loop
+loop-less c = omega arith
+
+loop-again : tie.Need-loop-again Inv-loop μ-loop
+loop-again c = inside-open _ _ _ _ (reached (c .before .before .before .before .before)) (omega arith) (c .before .if2 .taken) (c .if3 .taken)
+
+add-i-2 : tie.Need-add-i-2 Inv-loop μ-loop
+add-i-2 c = omega arith
+
+loop-less-2 : tie.Need-loop-less-2 Inv-loop μ-loop
+loop-less-2 c = omega arith
+
+loop-again-2 : tie.Need-loop-again-2 Inv-loop μ-loop
+loop-again-2 c = inside-paren _ _ _ _ (reached (c .before .before .before .before .before)) (omega arith) (c .before .if2 .taken) (c .if3 .left)
+
+add-result : tie.Need-add-result Inv-loop μ-loop
+add-result c = omega arith
+
+returns-2 : tie.Need-returns-2 Inv-loop μ-loop
+returns-2 c =
+    let m = c .before .before .before .before .before .before in
+    inside-last _ _ _ _ (reached m) (omega arith) (m .memchr2 .ensures .stops (omega arith)) (c .before .before .if2 .left) (c .before .if4 .taken) (c .if5 .taken)
+
+sub-level : tie.Need-sub-level Inv-loop μ-loop
+sub-level c = omega arith
+
+add-i-3 : tie.Need-add-i-3 Inv-loop μ-loop
+add-i-3 c = omega arith
+
+loop-less-3 : tie.Need-loop-less-3 Inv-loop μ-loop
+loop-less-3 c = omega arith
+
+loop-again-3 : tie.Need-loop-again-3 Inv-loop μ-loop
+loop-again-3 c =
+    let m = c .before .before .before .before .before .before in
+    inside-close _ _ _ _ (reached m) (omega arith) (m .memchr2 .ensures .stops (omega arith)) (c .before .before .if2 .left) (c .before .if4 .taken) (omega arith)
+
+add-i-4 : tie.Need-add-i-4 Inv-loop μ-loop
+add-i-4 c = omega arith
+
+loop-less-4 : tie.Need-loop-less-4 Inv-loop μ-loop
+loop-less-4 c = omega arith
+
+loop-again-4 : tie.Need-loop-again-4 Inv-loop μ-loop
+loop-again-4 c =
+    let m = c .before .before .before .before .before in
+    inside-semicolon _ _ _ _ (reached m) (omega arith) (m .memchr2 .ensures .stops (omega arith)) (c .before .if2 .left) (c .if4 .left)
+
+returns-3 : tie.Need-returns-3 Inv-loop μ-loop
+returns-3 c = inside-none _ _ _ _ (c .before .loop .inv) (omega arith)
+
+pub block-end-spec : {M : Type 1} → statement M
+block-end-spec =
+    tie.close
+    (tie.spec
+    Inv-loop
+    μ-loop
+    loop-holds
+    memchr2-requires
+    sub-if1
+    returns
+    add-b
+    shared-slice-read-b
+    shared-slice-read-if2
+    add-level
+    add-i
+    loop-less
+    loop-again
+    add-i-2
+    loop-less-2
+    loop-again-2
+    add-result
+    returns-2
+    sub-level
+    add-i-3
+    loop-less-3
+    loop-again-3
+    add-i-4
+    loop-less-4
+    loop-again-4
+    returns-3)

@@ -1,0 +1,79 @@
+-- Nothing is confusing before the place that is reached. Assumes nothing.
+use Prim.Native.Nat.{_-_}
+use mathlib.Core.Path.{_≡_, sym, ap, _∙_}
+use native.Mathlib.Omega.{arith}
+use lib.ListN.{length, take, drop}
+use Rattle.wat.specs.Utf8.{scalar}
+use Rattle.wat.specs.Chars.{confusing}
+use Rattle.lex_comments.proofs.HiddenLaws.{Seen, seen-start, seen-plain, seen-clear, seen-next, seen-found, seen-whole}
+use Rattle.lex_comments.proofs.check_confusing_comment.Statement.{statement}
+use Rattle.lex_comments.proofs.check_confusing_comment.Tie as tie
+
+abbrev Inv-loop : tie.InvT-loop
+Inv-loop s from to i₀ i = Seen s from to i
+
+abbrev μ-loop : tie.MeasureT-loop
+μ-loop s from to i₀ i = length s - i
+
+loop-holds : tie.Need-loop-holds Inv-loop μ-loop
+loop-holds c = seen-start _ _ _ (omega arith) (c .before .pre .1)
+
+memchr2-requires : tie.Need-memchr2-requires Inv-loop μ-loop
+memchr2-requires c κs = (omega arith, omega arith)
+
+-- at the next byte 0xE2, or past the comment
+reached :
+    (c : tie.After-memchr2 Inv-loop μ-loop) → let a = c .before .before .before .before .args in
+    Seen (a .s .now) (a .from) (a .to) (c .memchr2 .result)
+reached c = let l = c .before .before .loop in seen-plain _ _ _ (l .i) (c .memchr2 .result) (l .inv) (c .memchr2 .ensures .passed)
+
+returns : tie.Need-returns Inv-loop μ-loop
+returns c = seen-clear _ _ _ _ (reached (c .before)) (omega arith)
+
+char-at-requires : tie.Need-char-at-requires Inv-loop μ-loop
+char-at-requires c κs =
+    let m = c .before in
+    seen-whole _ _ _ _ (reached m) (omega arith) (m .memchr2 .ensures .stops (omega arith)) (m .before .before .before .before .pre .1)
+
+is-confusing-unicode-requires : tie.Need-is-confusing-unicode-requires Inv-loop μ-loop
+is-confusing-unicode-requires c κs = tt
+
+-- what the code asks of the character it decoded
+asked :
+    (c : tie.After-is-confusing-unicode Inv-loop μ-loop) → let a = c .before .before .before .before .before .before .before .args in
+    confusing (scalar (take 3 (drop (c .before .before .before .memchr2 .result) (a .s .now)))) ≡ c .is-confusing-unicode .result
+asked c = ap confusing (sym (c .before .char-at .ensures)) ∙ sym (c .is-confusing-unicode .ensures)
+
+returns-2 : tie.Need-returns-2 Inv-loop μ-loop
+returns-2 c =
+    let m = c .before .before .before .before in
+    rw (c .before .before .char-at .ensures) (seen-found _ _ _ _ (reached m) (omega arith) (m .memchr2 .ensures .stops (omega arith)) (asked (c .before) ∙ c .if2 .taken) (omega arith))
+
+add-i : tie.Need-add-i Inv-loop μ-loop
+add-i c = omega arith
+
+loop-less : tie.Need-loop-less Inv-loop μ-loop
+loop-less c = omega arith
+
+loop-again : tie.Need-loop-again Inv-loop μ-loop
+loop-again c = seen-next _ _ _ _ (reached (c .before .before .before .before)) (omega arith) (asked (c .before) ∙ c .if2 .left)
+
+returns-3 : tie.Need-returns-3 Inv-loop μ-loop
+returns-3 c = seen-clear _ _ _ _ (c .before .loop .inv) (omega arith)
+
+pub check-confusing-comment-spec : {M : Type 1} → statement M
+check-confusing-comment-spec =
+    tie.close
+    (tie.spec
+    Inv-loop
+    μ-loop
+    loop-holds
+    memchr2-requires
+    returns
+    char-at-requires
+    is-confusing-unicode-requires
+    returns-2
+    add-i
+    loop-less
+    loop-again
+    returns-3)

@@ -1,0 +1,150 @@
+-- `lex_numbers::classify::unsigned_at` meets its contract: each way out has what the model looks at, and the first byte tells the rest.
+-- Assumes nothing.
+use borrow.Author.Needs.{needs}
+use Prim.Native.Nat.{ℕ, _+_, _≤_}
+use mathlib.Core.Path.{_≡_, sym, ap, _∙_}
+use mathlib.Core.Bool.{false}
+use mathlib.Core.List.{List}
+use native.Mathlib.Omega.{arith}
+use lib.ListN.{getD}
+use lib.Seq.{slice}
+use Rattle.wat.specs.Numbers.{digit, inf, nan}
+use Rattle.wat.specs.NumberModel.{is, unsigned}
+use Rattle.lex_numbers.proofs.SliceLaws.{at-byte, at-end-empty}
+use Rattle.lex_numbers.proofs.WordLaws.{begins, begins-not, begins-within}
+use Rattle.lex_numbers.proofs.KindLaws.{nothing-after-sign, digit-first, is-inf, is-nan, is-payload, is-none}
+use Rattle.lex_numbers.proofs.classify.unsigned_at.Statement.{statement}
+use Rattle.lex_numbers.proofs.classify.unsigned_at.Tie as tie
+
+-- the places: the function's start, and where it has asked for a digit, for `inf`, for `nan` and for `nan:0x`, each from the next
+abbrev start : tie.After-is-digit → tie.Start
+start c = c .before .before .before .before
+
+abbrev digit-asked : tie.After-is-word → tie.After-is-digit
+digit-asked c = c .before .before .before
+
+abbrev inf-asked : tie.After-is-word2 → tie.After-is-word
+inf-asked c = c .before .before .before
+
+abbrev nan-asked : tie.After-starts → tie.After-is-word2
+nan-asked c = c .before .before .before
+
+-- the bytes that are asked about
+abbrev bytes : tie.After-is-digit → List ℕ
+bytes c = let a = start c .args in slice (a .at) (a .end) (a .text .now)
+
+not-digit : (c : tie.After-is-word) → let a = start (digit-asked c) .args in digit false (getD (a .text .now) (a .at) 0) ≡ false
+not-digit c = sym (digit-asked c .is-digit .ensures) ∙ c .before .before .if2 .left
+
+not-inf : (c : tie.After-is-word2) → is inf (bytes (digit-asked (inf-asked c))) ≡ false
+not-inf c = sym (inf-asked c .is-word .ensures) ∙ c .before .before .if3 .left
+
+not-nan : (c : tie.After-starts) → is nan (bytes (digit-asked (inf-asked (nan-asked c)))) ≡ false
+not-nan c = sym (nan-asked c .is-word2 .ensures) ∙ c .before .before .if4 .left
+
+returns : tie.Need-returns
+returns c =
+    let a = c .before .before .args in
+    nothing-after-sign (a .sign) ∙ ap (unsigned (a .sign)) (sym (at-end-empty (a .text .now) (a .at) (a .end) (c .if1 .taken)))
+
+shared-slice-read-is-digit : tie.Need-shared-slice-read-is-digit
+shared-slice-read-is-digit c = search needs
+
+is-digit-requires : tie.Need-is-digit-requires
+is-digit-requires c κs = search needs
+
+finite-at-requires : tie.Need-finite-at-requires
+finite-at-requires c κs = search needs
+
+returns-2 : tie.Need-returns-2
+returns-2 c =
+    let d = c .before .before in
+    let a = start d .args in
+    let first = at-byte (a .text .now) (a .at) (a .end) (omega arith) (omega arith) in
+    c .finite-at .ensures ∙ digit-first (a .sign) (bytes d) _ first (sym (d .is-digit .ensures) ∙ c .before .if2 .taken)
+
+slice-aggregate-is-word : tie.Need-slice-aggregate-is-word
+slice-aggregate-is-word c = search needs
+
+is-word-requires : tie.Need-is-word-requires
+is-word-requires c κs = search needs
+
+is-negative-requires : tie.Need-is-negative-requires
+is-negative-requires c κs = search needs
+
+returns-3 : tie.Need-returns-3
+returns-3 c =
+    let i = c .before .before in
+    let d = digit-asked i in
+    is-inf (start d .args .sign) (bytes d) (c .is-negative .ensures) (sym (i .is-word .ensures) ∙ c .before .if3 .taken)
+
+slice-aggregate-is-word-2 : tie.Need-slice-aggregate-is-word-2
+slice-aggregate-is-word-2 c = search needs
+
+is-word-requires-2 : tie.Need-is-word-requires-2
+is-word-requires-2 c κs = search needs
+
+is-negative-requires-2 : tie.Need-is-negative-requires-2
+is-negative-requires-2 c κs = search needs
+
+returns-4 : tie.Need-returns-4
+returns-4 c =
+    let n = c .before .before in
+    let d = digit-asked (inf-asked n) in
+    is-nan (start d .args .sign) (bytes d) (not-inf n) (c .is-negative2 .ensures) (sym (n .is-word2 .ensures) ∙ c .before .if4 .taken)
+
+slice-aggregate-starts : tie.Need-slice-aggregate-starts
+slice-aggregate-starts c = search needs
+
+starts-requires : tie.Need-starts-requires
+starts-requires c κs = search needs
+
+add-payload-at : tie.Need-add-payload-at
+add-payload-at c = search needs
+
+payload-within : (c : tie.Then5) → let a = start (digit-asked (inf-asked (nan-asked (c .before)))) .args in a .at + 6 ≤ a .end
+payload-within c = begins-within (c .before .starts .ensures) (c .if5 .taken)
+
+payload-at-requires : tie.Need-payload-at-requires
+payload-at-requires c κs = omega (arith, payload-within c)
+
+returns-5 : tie.Need-returns-5
+returns-5 c =
+    let s = c .before .before in
+    let n = nan-asked s in
+    let d = digit-asked (inf-asked n) in
+    c .payload-at .ensures
+    ∙ is-payload (start d .args .sign) (bytes d) (not-inf n) (not-nan s) (begins (s .starts .ensures) (c .before .if5 .taken))
+
+returns-6 : tie.Need-returns-6
+returns-6 c =
+    let s = c .before in
+    let n = nan-asked s in
+    let d = digit-asked (inf-asked n) in
+    let a = start d .args in
+    let first = at-byte (a .text .now) (a .at) (a .end) (omega arith) (omega arith) in
+    is-none (a .sign) (bytes d) (not-inf n) (not-nan s) _ first (begins-not (s .starts .ensures) (c .if5 .left)) (not-digit (inf-asked n))
+
+pub unsigned-at-spec : {M : Type 1} → statement M
+unsigned-at-spec =
+    tie.close
+    (tie.spec
+    returns
+    shared-slice-read-is-digit
+    is-digit-requires
+    finite-at-requires
+    returns-2
+    slice-aggregate-is-word
+    is-word-requires
+    is-negative-requires
+    returns-3
+    slice-aggregate-is-word-2
+    is-word-requires-2
+    is-negative-requires-2
+    returns-4
+    slice-aggregate-starts
+    starts-requires
+    add-payload-at
+    payload-at-requires
+    returns-5
+    returns-6)

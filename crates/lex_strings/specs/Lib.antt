@@ -1,0 +1,2 @@
+pub mod Raw
+pub mod Parsing

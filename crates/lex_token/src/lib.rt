@@ -1,0 +1,279 @@
+// One token: its first byte tells its family, and each family is read by a function of its own (`parse_kind` and
+// `parse_reserved` of the Rust). Returns the kind's number and the end; 0 on an error. `lex_calls::fault_at` says which
+// error, at most once a listing.
+
+ghost use mathlib.Core.Path.{_≡_};
+ghost use Prim.Native.Nat.{suc, _-_, _≤_, _<_};
+ghost use lib.ListN.{length, getD, drop};
+ghost use lib.Seq.{slice};
+ghost use Rattle.wat.specs.declared.Number.the-variants.{Neither};
+ghost use Rattle.wat.specs.Utf8.{WellFormed};
+ghost use Rattle.wat.specs.Cases.{kindNumber};
+ghost use Rattle.wat.specs.NumberModel.{classify};
+ghost use Rattle.wat.specs.RunModel as run;
+ghost use Rattle.wat.specs.LexModel.{next, wordKind};
+ghost use Rattle.wat.specs.LexModel as model;
+ghost use Rattle.wat_laws.proofs.RunKinds.{quotedBy};
+ghost use Rattle.lex_classes.specs.Table.{Classes};
+ghost use Rattle.lex_token.specs.Steps.{nowhere, stepOf, Stepped};
+use lex_strings::StringEnd;
+use wat::Family;
+use wat::FloatKind;
+use wat::Hidden;
+use wat::IntegerKind;
+use wat::Number;
+use wat::RunEnd;
+use wat::Settings;
+use wat::TokenKind;
+
+// A token by two numbers: that of its kind, and the place past it. 0 and the place itself where no token is.
+pub struct Step {
+    pub kind: u16,
+    pub end: usize,
+}
+
+// The token at a place before the end, by its first byte.
+// https://webassembly.github.io/spec/core/text/lexical.html#text-token
+pub fn parse_kind(s: &[u8], at: usize, settings: Settings, t: &[u8; 256]) -> Step
+    requires { ⌜ at < length (now s) ⌝ }
+    requires { ⌜ WellFormed (drop at (now s)) ⌝ }
+    requires { ⌜ Classes (now t) ⌝ }
+    ensures { λ r. ⌜ Stepped settings (now (s .entry)) at r ⌝ }
+{
+    match lex_classes::begins(t, s[at]) {
+        Family::Spaces => Step {
+            kind: TokenKind::WHITESPACE,
+            end: lex_classes::skip_ws(s, at + 1, t),
+        },
+        Family::OpenParen => open_paren(s, at, settings),
+        Family::CloseParen => Step {
+            kind: TokenKind::RPAREN,
+            end: at + 1,
+        },
+        Family::Single => Step {
+            kind: TokenKind::RESERVED,
+            end: at + 1,
+        },
+        Family::Semi => semicolon(s, at, settings),
+        Family::Run => parse_reserved(s, at, settings, t),
+        Family::Other => nothing(at),
+    }
+}
+
+// `(`, or a block comment.
+fn open_paren(s: &[u8], at: usize, settings: Settings) -> Step
+    requires { ⌜ at < length (now s) ⌝ }
+    requires { ⌜ WellFormed (drop at (now s)) ⌝ }
+    ensures { λ r. ⌜ r ≡ stepOf at (model.lexBy settings Family.OpenParen (drop at (now (s .entry)))) ⌝ }
+{
+    if !is_at(s, at + 1, b';') {
+        return Step {
+            kind: TokenKind::LPAREN,
+            end: at + 1,
+        };
+    }
+    let end = lex_comments::block_end(s, at + 2);
+    if end == 0 {
+        return nothing(at);
+    }
+    comment(s, at, end, TokenKind::BLOCK_COMMENT, settings)
+}
+
+// `;`, or a line comment.
+fn semicolon(s: &[u8], at: usize, settings: Settings) -> Step
+    requires { ⌜ at < length (now s) ⌝ }
+    requires { ⌜ WellFormed (drop at (now s)) ⌝ }
+    ensures { λ r. ⌜ r ≡ stepOf at (model.lexBy settings Family.Semi (drop at (now (s .entry)))) ⌝ }
+{
+    if !is_at(s, at + 1, b';') {
+        return Step {
+            kind: TokenKind::RESERVED,
+            end: at + 1,
+        };
+    }
+    comment(
+        s,
+        at,
+        lex_comments::line_end(s, at),
+        TokenKind::LINE_COMMENT,
+        settings,
+    )
+}
+
+// The comment from `at` to `end`, unless it has a confusing character and none is allowed.
+fn comment(s: &[u8], at: usize, end: usize, kind: u16, settings: Settings) -> Step
+    requires { ⌜ (at ≤ end) × (end ≤ length (now s)) ⌝ }
+    requires { ⌜ WellFormed (drop at (now s)) ⌝ }
+    ensures { λ r. ⌜ ((k : TokenKind) → kind ≡ kindNumber k
+        → r ≡ stepOf at (model.comment settings k (end - at) (drop at (now (s .entry))))) ⌝ }
+{
+    if settings.allow_confusing {
+        return Step { kind, end };
+    }
+    match lex_comments::check_confusing_comment(s, at, end) {
+        Hidden::Clear => Step { kind, end },
+        Hidden::Found {
+            at: _,
+            character: _,
+        } => nothing(at),
+    }
+}
+
+// A token that is a run: idchars alone, idchars and one string, or more.
+fn parse_reserved(s: &[u8], at: usize, settings: Settings, t: &[u8; 256]) -> Step
+    requires { ⌜ (at < length (now s)) × (model.family (getD (now s) at 0) ≡ Family.Run) ⌝ }
+    requires { ⌜ WellFormed (drop at (now s)) ⌝ }
+    requires { ⌜ Classes (now t) ⌝ }
+    ensures { λ r. ⌜ r ≡ stepOf at (model.lexBy settings Family.Run (drop at (now (s .entry)))) ⌝ }
+{
+    let i = lex_classes::idchars_end(s, at, t);
+    if !is_at(s, i, b'"') {
+        return Step {
+            kind: word_kind(s, at, i),
+            end: i,
+        };
+    }
+    match lex_strings::parse_str(s, i + 1, settings) {
+        StringEnd::Failed(_) => nothing(at),
+        StringEnd::Closed(j) => match parse_run(s, j, settings, t) {
+            RunEnd::Fails(_) => nothing(at),
+            RunEnd::Stops(k) => {
+                if k == j {
+                    return Step {
+                        kind: quoted_kind(s, at, i),
+                        end: j,
+                    };
+                }
+                Step {
+                    kind: TokenKind::RESERVED,
+                    end: k,
+                }
+            }
+        },
+    }
+}
+
+// The run of idchars and strings from `at` on.
+// https://webassembly.github.io/spec/core/text/values.html#text-string
+pub fn parse_run(s: &[u8], at: usize, settings: Settings, t: &[u8; 256]) -> RunEnd
+    requires { ⌜ at ≤ length (now s) ⌝ }
+    requires { ⌜ WellFormed (drop at (now s)) ⌝ }
+    requires { ⌜ Classes (now t) ⌝ }
+    ensures { λ r. ⌜ r ≡ run.on at
+        (run.walk settings (suc (length (drop at (now (s .entry))))) (drop at (now (s .entry)))) ⌝ }
+{
+    let mut i = at;
+    loop {
+        let k = lex_classes::idchars_end(s, i, t);
+        if !is_at(s, k, b'"') {
+            return RunEnd::Stops(k);
+        }
+        match lex_strings::parse_str(s, k + 1, settings) {
+            StringEnd::Closed(end) => {
+                i = end;
+            }
+            StringEnd::Failed(fault) => {
+                return RunEnd::Fails(fault);
+            }
+        }
+    }
+}
+
+// The number of the kind of the idchars from `at` to `end`.
+fn word_kind(s: &[u8], at: usize, end: usize) -> u16
+    requires { ⌜ (at < end) × (end ≤ length (now s)) ⌝ }
+    ensures { λ r. ⌜ r ≡ kindNumber
+        (wordKind (classify (slice at end (now (s .entry)))) (getD (now (s .entry)) at 0)) ⌝ }
+{
+    named_kind(lex_numbers::classify_number(s, at, end), s[at])
+}
+
+// The number of the kind of a word, by the number that it is and its first byte.
+// https://webassembly.github.io/spec/core/text/values.html#integers
+fn named_kind(n: Number, b: u8) -> u16
+    ensures { λ r. ⌜ r ≡ kindNumber (wordKind n b) ⌝ }
+{
+    match n {
+        Number::Integer {
+            sign,
+            hex,
+            underscores,
+        } => codes::kind_number(TokenKind::Integer(IntegerKind {
+            sign,
+            underscores,
+            hex,
+        })),
+        Number::Inf { negative } => codes::kind_number(TokenKind::Float(FloatKind::Inf {
+            negative,
+        })),
+        Number::Nan { negative } => codes::kind_number(TokenKind::Float(FloatKind::Nan {
+            negative,
+        })),
+        Number::NanVal {
+            negative,
+            underscores,
+        } => codes::kind_number(TokenKind::Float(FloatKind::NanVal {
+            negative,
+            underscores,
+        })),
+        Number::Normal { hex, underscores } => {
+            codes::kind_number(TokenKind::Float(FloatKind::Normal { underscores, hex }))
+        }
+        Number::Neither => plain_kind(b),
+    }
+}
+
+// The number of the kind of a word that is no number, by its first byte.
+// https://webassembly.github.io/spec/core/text/values.html#text-id
+// https://webassembly.github.io/spec/core/text/lexical.html#text-keyword
+fn plain_kind(b: u8) -> u16
+    ensures { λ r. ⌜ r ≡ kindNumber (wordKind Neither b) ⌝ }
+{
+    if b == b'$' {
+        return TokenKind::ID;
+    }
+    if b == b'@' {
+        return TokenKind::ANNOTATION;
+    }
+    if lex_classes::is_letter(b) {
+        return TokenKind::KEYWORD;
+    }
+    TokenKind::RESERVED
+}
+
+// The number of the kind of the idchars from `at` to `end` and one string.
+fn quoted_kind(s: &[u8], at: usize, end: usize) -> u16
+    requires { ⌜ (at ≤ end) × (end ≤ length (now s)) ⌝ }
+    ensures { λ r. ⌜ r ≡ kindNumber (quotedBy (slice at end (now (s .entry)))) ⌝ }
+{
+    if end - at == 0 {
+        return TokenKind::STRING;
+    }
+    if 1 < end - at {
+        return TokenKind::RESERVED;
+    }
+    let b = s[at];
+    if b == b'$' {
+        return TokenKind::ID;
+    }
+    if b == b'@' {
+        return TokenKind::ANNOTATION;
+    }
+    TokenKind::RESERVED
+}
+
+fn nothing(at: usize) -> Step
+    ensures { λ r. ⌜ r ≡ nowhere at ⌝ }
+{
+    Step { kind: 0, end: at }
+}
+
+// Whether the byte at a place, which may be any, is b.
+pub fn is_at(s: &[u8], at: usize, b: u8) -> bool
+    ensures { λ r. ⌜ r ≡ next b (drop at (now (s .entry))) ⌝ }
+{
+    if s.len() <= at {
+        return false;
+    }
+    s[at] == b
+}

@@ -1,3 +1,0 @@
-mod DecimalLaws
-pub mod WritingLaws
-pub mod RecordLaws

@@ -1,0 +1,142 @@
+-- The model's answer is the one that `Tells` asks, of an error by its values and of a refusal by its code. Assumes nothing.
+use Prim.Native.Nat.{ℕ, _^_, _<_}
+use mathlib.Core.Path.{_≡_, refl, sym, ap, subst, _∙_}
+use mathlib.Core.Bool.{Bool, true, false}
+use mathlib.Core.List.{List, [], _∷_}
+use lib.Dec.{eqb, ltb}
+use lib.ListN.{length, getD}
+use borrow.Author.Tests.{ltb-true, ltb-false, eqb-true, eqb-false}
+use Rattle.wat.specs.declared.{LexError.LexError, Refusal.Refusal}
+use Rattle.wat.specs.declared.LexError.the-variants as error
+use Rattle.wat.specs.declared.Refusal.the-variants as refusal
+use Rattle.wat.specs.{Bytes.between, Cases.errorNumber, Cases.number}
+use Rattle.wat.proofs.Basics.{never}
+use Rattle.codes.specs.declared.Code.{Code}
+use Rattle.codes.specs.Coded.{Coded}
+use Rattle.messages.specs.declared.Told.{Told}
+use Rattle.messages.specs.Messages.{Displays, Tells}
+use Rattle.messages.specs.MessageModel.{known, showable, tellable, rest, message, fitted, answer}
+use Rattle.messages.proofs.MessageLaws.{Carries, displays, has-message}
+use Rattle.messages.proofs.AnswerLaws.{unknown, untold, fit}
+
+-- an error's number, and its values, 0 for each that it lacks
+abbrev pub numberOf : LexError → ℕ
+numberOf e = errorNumber e .0
+
+abbrev firstOf : LexError → ℕ
+firstOf e = getD (errorNumber e .1) 0 0
+
+abbrev secondOf : LexError → ℕ
+secondOf e = getD (errorNumber e .1) 1 0
+
+-- ---- of an error
+
+fits :
+    {e : LexError} {m : List ℕ} (buffer : List ℕ) → Displays e m
+    → Tells (refusal.Lexical e) buffer (fitted m buffer .0) (fitted m buffer .1)
+unfolding fitted
+fits {e} {m} buffer d = go (ltb (length buffer) (length m)) refl
+  where
+    go : (x : Bool) → ltb (length buffer) (length m) ≡ x → Tells (refusal.Lexical e) buffer (fitted m buffer .0) (fitted m buffer .1)
+    go true p = rw (p, fitted) (Tells.too-short refl d (ltb-true (length buffer) (length m) p))
+    go false p = rw (p, fitted) (Tells.told refl d (ltb-false (length buffer) (length m) p))
+
+-- the same answer, where `Tells` asks its equal
+pub answered : (r : Refusal) (buffer : List ℕ) {x y : Told × List ℕ} → x ≡ y → Tells r buffer (y .0) (y .1) → Tells r buffer (x .0) (x .1)
+answered r buffer q t = subst (λ (z : Told × List ℕ). Tells r buffer (z .0) (z .1)) (sym q) t
+
+pub tells :
+    (e : LexError) (a b : ℕ) (buffer : List ℕ) → Carries (errorNumber e .1) a b
+    → Tells (refusal.Lexical e) buffer (answer (numberOf e) a b buffer .0) (answer (numberOf e) a b buffer .1)
+tells e a b buffer q = go (tellable (numberOf e) a b) refl
+  where
+    none : tellable (numberOf e) a b ≡ false → (f : LexError) (m : List ℕ) → refusal.Lexical e ≡ refusal.Lexical f → Displays f m → ⊥
+    none t f m p d = let z : f ≡ e = cc in never (has-message a b (rw z at d) q) t
+
+    go :
+        (x : Bool) → tellable (numberOf e) a b ≡ x
+        → Tells (refusal.Lexical e) buffer (answer (numberOf e) a b buffer .0) (answer (numberOf e) a b buffer .1)
+    go true t = answered (refusal.Lexical e) buffer (sym (fit (numberOf e) a b buffer t)) (fits buffer (displays e a b q t))
+    go false t = answered (refusal.Lexical e) buffer (sym (untold (numberOf e) a b buffer t)) (Tells.none (none t))
+
+-- ---- of a refusal
+
+-- the values as two numbers
+own : (vs : List ℕ) → Carries vs (getD vs 0 0) (getD vs 1 0)
+own [] = tt
+own (c ∷ []) = refl
+own (c ∷ d ∷ vs) = (refl, refl)
+
+has-number : (e : LexError) → known (numberOf e) ≡ true
+unfolding between known
+has-number error.DanglingBlockComment = refl
+has-number (error.Unexpected c) = refl
+has-number (error.InvalidStringElement c) = refl
+has-number (error.InvalidStringEscape c) = refl
+has-number (error.InvalidHexDigit c) = refl
+has-number (error.Expected w c) = refl
+has-number error.UnexpectedEof = refl
+has-number error.NumberTooBig = refl
+has-number (error.InvalidUnicodeValue n) = refl
+has-number error.LoneUnderscore = refl
+has-number (error.ConfusingUnicode c) = refl
+has-number (error.InvalidUtf8Id v e) = refl
+has-number error.EmptyId = refl
+has-number error.EmptyAnnotation = refl
+
+pub no-number : {n : ℕ} → known n ≡ false → (e : LexError) → numberOf e ≡ n → ⊥
+no-number k e q = never (has-number e) (ap known q ∙ k)
+
+two-unknown : known 2 ≡ false
+unfolding between known
+two-unknown = refl
+
+-- the message of 22 shows no value
+hidden-values : (a b c d : ℕ) (buffer : List ℕ) → answer 22 a b buffer ≡ answer 22 c d buffer
+unfolding between known showable tellable rest message answer
+hidden-values a b c d buffer = refl
+
+-- a and b are the values of a code, where they are of 32 bits
+module _ {c : Code} {a b : ℕ} (p : c .first < 2 ^ 32 → a ≡ c .first) (q : c .second < 2 ^ 32 → b ≡ c .second) (buffer : List ℕ) where
+  shows : (e : LexError) → Coded (errorNumber e) c → answer (numberOf e) a b buffer ≡ answer (numberOf e) (firstOf e) (secondOf e) buffer
+  shows e d = go (eqb (numberOf e) 22) refl
+    where
+      go : (t : Bool) → eqb (numberOf e) 22 ≡ t → answer (numberOf e) a b buffer ≡ answer (numberOf e) (firstOf e) (secondOf e) buffer
+      go true t =
+          let z = eqb-true (numberOf e) 22 t in
+          ap (λ (n : ℕ). answer n a b buffer) z
+          ∙ hidden-values a b (firstOf e) (secondOf e) buffer
+          ∙ sym (ap (λ (n : ℕ). answer n (firstOf e) (secondOf e) buffer) z)
+      go false t =
+          let w = d .narrow (no-number two-unknown e) (eqb-false (numberOf e) 22 t) in
+          ap (λ (x : ℕ). answer (numberOf e) x b buffer) (p (w .0) ∙ d .one)
+          ∙ ap (λ (y : ℕ). answer (numberOf e) (firstOf e) y buffer) (q (w .1) ∙ d .two)
+
+  coded :
+      {left : List ℕ} {m : Told} {n : ℕ × List ℕ} → Coded n c → (m, left) ≡ answer (c .number) a b buffer
+      → (m, left) ≡ answer (n .0) a b buffer
+  coded d z = z ∙ ap (λ (n : ℕ). answer n a b buffer) (d .numbered)
+
+  other :
+      {left : List ℕ} {m : Told} (r : Refusal) → known (number r .0) ≡ false → Coded (number r) c
+      → (m, left) ≡ answer (c .number) a b buffer → Tells r buffer m left
+  other r k d z =
+      answered
+      r
+      buffer
+      (coded d z ∙ sym (untold (number r .0) a b buffer (sym (unknown (number r .0) a b k))))
+      (Tells.none (λ e t x y. no-number k e (sym (ap (λ (s : Refusal). number s .0) x))))
+
+  pub tells-refusal :
+      {left : List ℕ} {m : Told} (r : Refusal) → Coded (number r) c → (m, left) ≡ answer (c .number) a b buffer → Tells r buffer m left
+  unfolding between known
+  tells-refusal refusal.TooLong d z = other refusal.TooLong refl d z
+  tells-refusal (refusal.NotUtf8 v e) d z = other (refusal.NotUtf8 v e) refl d z
+  tells-refusal refusal.PastEnd d z = other refusal.PastEnd refl d z
+  tells-refusal refusal.InsideCharacter d z = other refusal.InsideCharacter refl d z
+  tells-refusal (refusal.Lexical e) d z =
+      answered (refusal.Lexical e) buffer (coded d z ∙ shows e d) (tells e (firstOf e) (secondOf e) buffer (own (errorNumber e .1)))
+  tells-refusal refusal.NotThatToken d z = other refusal.NotThatToken refl d z
+  tells-refusal refusal.NotThatKind d z = other refusal.NotThatKind refl d z
+  tells-refusal refusal.BufferTooShort d z = other refusal.BufferTooShort refl d z
+  tells-refusal refusal.NoMessage d z = other refusal.NoMessage refl d z

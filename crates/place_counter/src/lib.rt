@@ -1,0 +1,20 @@
+// The place counter, lent and changed by the call, which `thallusweb` passes on.
+ghost use mathlib.Core.Path.{_≡_};
+ghost use Rattle.place.specs.Places.{new, Moves};
+use place::Place;
+
+// Where a text begins.
+pub fn new_place() -> Place
+    ensures { λ r. ⌜ r ≡ new ⌝ }
+{
+    Place { line: 1, column: 1 }
+}
+
+// The counter moves over the bytes of a token; or the answer is false, which is 35, and it stays.
+pub fn move_over(p: &mut Place, w: &[u8]) -> bool
+    ensures { λ r. ⌜ Moves (now (p .entry)) (now (w .entry)) (record { ok = r; place = now (p .exit) }) ⌝ }
+{
+    let moved = place::move_over(*p, w);
+    *p = moved.place;
+    moved.ok
+}

@@ -1,0 +1,136 @@
+-- `read_call::read` meets its contract: the reader of each number. Assumes nothing.
+use mathlib.Core.Path.{refl}
+use native.Mathlib.Omega.{arith}
+use Rattle.read_call.proofs.NumberedLaws.{src-any, by-number, by-nobody, by-nobody-missing}
+use borrow.Author.Needs.{needs}
+use Rattle.read_call.proofs.read.Statement.{statement}
+use Rattle.read_call.proofs.read.Tie as tie
+
+src-requires : tie.Need-src-requires
+src-requires c κs = search needs
+
+string-requires : tie.Need-string-requires
+string-requires c κs = search needs
+
+id-requires : tie.Need-id-requires
+id-requires c κs = search needs
+
+annotation-requires : tie.Need-annotation-requires
+annotation-requires c κs = search needs
+
+integer-requires : tie.Need-integer-requires
+integer-requires c κs = search needs
+
+part-requires : tie.Need-part-requires
+part-requires c κs = search needs
+
+part-requires-2 : tie.Need-part-requires-2
+part-requires-2 c κs = search needs
+
+part-requires-3 : tie.Need-part-requires-3
+part-requires-3 c κs = search needs
+
+part-requires-4 : tie.Need-part-requires-4
+part-requires-4 c κs = search needs
+
+present-requires : tie.Need-present-requires
+present-requires c κs = search needs
+
+enum-told : tie.Need-enum-told
+enum-told c = search needs
+
+enum-known-refusal : tie.Need-enum-known-refusal
+enum-known-refusal c = search needs
+
+returns : tie.Need-returns
+returns c = by-number 0 (omega arith) refl (src-any (c .before .before .before .before .args .buffer .now) (c .src .ensures))
+
+same-length : tie.Need-same-length
+same-length c = search needs
+
+returns-2 : tie.Need-returns-2
+returns-2 c = by-number 1 (omega arith) refl (c .before .before .string .ensures)
+
+same-length-2 : tie.Need-same-length-2
+same-length-2 c = search needs
+
+returns-3 : tie.Need-returns-3
+returns-3 c = by-number 2 (omega arith) refl (c .before .before .id .ensures)
+
+same-length-3 : tie.Need-same-length-3
+same-length-3 c = search needs
+
+returns-4 : tie.Need-returns-4
+returns-4 c = by-number 3 (omega arith) refl (c .before .before .annotation .ensures)
+
+same-length-4 : tie.Need-same-length-4
+same-length-4 c = search needs
+
+returns-5 : tie.Need-returns-5
+returns-5 c = by-number 4 (omega arith) refl (c .before .before .integer .ensures)
+
+same-length-5 : tie.Need-same-length-5
+same-length-5 c = search needs
+
+returns-6 : tie.Need-returns-6
+returns-6 c = by-number 5 (omega arith) refl (c .before .before .part .ensures)
+
+same-length-6 : tie.Need-same-length-6
+same-length-6 c = search needs
+
+returns-7 : tie.Need-returns-7
+returns-7 c = by-number 6 (omega arith) refl (c .before .before .part2 .ensures)
+
+same-length-7 : tie.Need-same-length-7
+same-length-7 c = search needs
+
+returns-8 : tie.Need-returns-8
+returns-8 c = by-number 7 (omega arith) refl (c .before .before .part3 .ensures)
+
+same-length-8 : tie.Need-same-length-8
+same-length-8 c = search needs
+
+returns-9 : tie.Need-returns-9
+returns-9 c = by-number 8 (omega arith) refl (c .before .before .part4 .ensures)
+
+returns-10 : tie.Need-returns-10
+returns-10 c = by-nobody (c .before .before .before .match .rest) (c .before .before .present .ensures) (c .enum-told .given .1)
+
+returns-11 : tie.Need-returns-11
+returns-11 c = by-nobody-missing (c .before .before .before .before .match .rest) (c .before .before .before .present .ensures) (c .before .refusal .given .1)
+
+pub read-spec : {M : Type 1} → statement M
+read-spec =
+    tie.close
+    (tie.spec
+    src-requires
+    string-requires
+    id-requires
+    annotation-requires
+    integer-requires
+    part-requires
+    part-requires-2
+    part-requires-3
+    part-requires-4
+    present-requires
+    enum-told
+    enum-known-refusal
+    returns
+    same-length
+    returns-2
+    same-length-2
+    returns-3
+    same-length-3
+    returns-4
+    same-length-4
+    returns-5
+    same-length-5
+    returns-6
+    same-length-6
+    returns-7
+    same-length-7
+    returns-8
+    same-length-8
+    returns-9
+    returns-10
+    returns-11)

@@ -1,0 +1,34 @@
+// The second call of the readers: the part that a first call named.
+
+ghost use Rattle.wat_values.specs.Reading.{Second};
+ghost use Rattle.read_second.specs.Parts.{PartOf};
+use wat_values::Reading;
+
+// The part of the text or of the buffer that a first call named. It takes any answer, and gives an empty part where there is none such.
+pub fn part<'a>(text: &'a [u8], buffer: &'a [u8], reading: Reading) -> &'a [u8]
+    ensures { λ r. ⌜ Second (now (text .entry)) (now (buffer .entry)) reading (now r) ⌝ }
+{
+    match reading {
+        Reading::Text { start, len } => sub(text, start, len),
+        Reading::Buffer { start, len } => sub(buffer, start, len),
+        Reading::Refused {
+            refusal: _,
+            place: _,
+        } => &text[0..0],
+        Reading::Absent => &text[0..0],
+    }
+}
+
+// So many bytes from a start on; none where there are not so many.
+fn sub<'a>(s: &'a [u8], start: usize, len: usize) -> &'a [u8]
+    ensures { λ r. ⌜ PartOf (now (s .entry)) start len (now r) ⌝ }
+{
+    if s.len() < start {
+        return &s[0..0];
+    }
+    if s.len() - start < len {
+        return &s[0..0];
+    }
+    let end = start + len;
+    &s[start..end]
+}

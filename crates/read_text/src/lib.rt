@@ -1,0 +1,66 @@
+// The readers of all but numbers: the Rust's `Token::src`, `string`, `id` and `annotation` as two calls. The first writes a
+// copy if one is needed and says where the value is; the second returns that part of the text or of the buffer.
+
+ghost use mathlib.Core.List.{[]};
+ghost use Rattle.wat_values.specs.Values.{Reader};
+ghost use Rattle.wat_values.specs.Reading.{Read};
+use read_token::TokenCheck;
+use wat::LexError;
+use wat::Token;
+use wat::TokenKind;
+use wat_values::Reading;
+
+// A token's own bytes: the reader of any kind. It never copies.
+pub fn src(text: &[u8], token: Token) -> Reading
+    ensures { λ r. ⌜ Read Reader.src (now (text .entry)) token [] r [] ⌝ }
+{
+    match read_token::present(text, token) {
+        TokenCheck::Refused { refusal, place } => Reading::Refused { refusal, place },
+        TokenCheck::There => Reading::Text {
+            start: token.offset,
+            len: token.len as usize,
+        },
+    }
+}
+
+// The bytes that a string stands for.
+pub fn string(text: &[u8], token: Token, buffer: &mut [u8]) -> Reading
+    ensures { λ r. ⌜ Read Reader.string (now (text .entry)) token (now (buffer .entry)) r (now (buffer .exit)) ⌝ }
+{
+    match read_token::taken(text, token, TokenKind::String) {
+        TokenCheck::Refused { refusal, place } => Reading::Refused { refusal, place },
+        TokenCheck::There => {
+            let offset = token.offset;
+            let len = token.len as usize;
+            read_names::quoted(text, offset, len, buffer)
+        }
+    }
+}
+
+// The name of an identifier, after its `$`.
+pub fn id(text: &[u8], token: Token, buffer: &mut [u8]) -> Reading
+    ensures { λ r. ⌜ Read Reader.id (now (text .entry)) token (now (buffer .entry)) r (now (buffer .exit)) ⌝ }
+{
+    match read_token::taken(text, token, TokenKind::Id) {
+        TokenCheck::Refused { refusal, place } => Reading::Refused { refusal, place },
+        TokenCheck::There => {
+            let offset = token.offset;
+            let len = token.len as usize;
+            read_names::name(text, offset, len, LexError::EmptyId, buffer)
+        }
+    }
+}
+
+// The name of an annotation, after its `@`.
+pub fn annotation(text: &[u8], token: Token, buffer: &mut [u8]) -> Reading
+    ensures { λ r. ⌜ Read Reader.annotation (now (text .entry)) token (now (buffer .entry)) r (now (buffer .exit)) ⌝ }
+{
+    match read_token::taken(text, token, TokenKind::Annotation) {
+        TokenCheck::Refused { refusal, place } => Reading::Refused { refusal, place },
+        TokenCheck::There => {
+            let offset = token.offset;
+            let len = token.len as usize;
+            read_names::name(text, offset, len, LexError::EmptyAnnotation, buffer)
+        }
+    }
+}

@@ -1,0 +1,103 @@
+// Whether a token that a caller hands in is there, of a kind, and a number.
+
+ghost use Rattle.wat.specs.Calls.{Stands};
+ghost use Rattle.read_token.specs.Here.{Here, Taken, HereNumber};
+use lex_entry::Entry;
+use wat::FloatKind;
+use wat::IntegerKind;
+use wat::Refusal;
+use wat::Settings;
+use wat::Token;
+use wat::TokenKind;
+use wat_values::NO_PLACE;
+
+// Whether a token is there: 1 to 4 at its offset, and 30.
+pub enum TokenCheck {
+    There,
+    Refused { refusal: Refusal, place: usize },
+}
+
+pub fn present(text: &[u8], token: Token) -> TokenCheck
+    ensures { λ r. ⌜ Here (now (text .entry)) token r ⌝ }
+{
+    let offset = token.offset;
+    match lex_entry::check(text, offset) {
+        Entry::Rejected { refusal, place } => TokenCheck::Refused { refusal, place },
+        Entry::Stands => present_at(text, token),
+    }
+}
+
+// 30, at an offset that stands: lexing there, leniently, gives another kind or another length, or nothing.
+fn present_at(text: &[u8], token: Token) -> TokenCheck
+    requires { ⌜ Stands (now text) (token .offset) ⌝ }
+    ensures { λ r. ⌜ Here (now (text .entry)) token r ⌝ }
+{
+    let offset = token.offset;
+    if offset == text.len() {
+        return TokenCheck::Refused {
+            refusal: Refusal::NotThatToken,
+            place: NO_PLACE,
+        };
+    }
+    let t = lex_classes::table();
+    let step = lex_token::parse_kind(text, offset, Settings::LENIENT, &t);
+    let kind = token.kind;
+    if step.kind != codes::kind_number(kind) {
+        return TokenCheck::Refused {
+            refusal: Refusal::NotThatToken,
+            place: NO_PLACE,
+        };
+    }
+    if step.end - offset != token.len as usize {
+        return TokenCheck::Refused {
+            refusal: Refusal::NotThatToken,
+            place: NO_PLACE,
+        };
+    }
+    TokenCheck::There
+}
+
+// As `present`, and then 31: its kind is not the one wanted.
+pub fn taken(text: &[u8], token: Token, wanted: TokenKind) -> TokenCheck
+    ensures { λ r. ⌜ Taken (now (text .entry)) token wanted r ⌝ }
+{
+    match present(text, token) {
+        TokenCheck::Refused { refusal, place } => TokenCheck::Refused { refusal, place },
+        TokenCheck::There => {
+            let kind = token.kind;
+            if codes::same_kind(kind, wanted) {
+                return TokenCheck::There;
+            }
+            TokenCheck::Refused {
+                refusal: Refusal::NotThatKind,
+                place: NO_PLACE,
+            }
+        }
+    }
+}
+
+// The kind of a number that is there; else 1 to 4, 30 or 31.
+pub enum NumberKind {
+    Refused { refusal: Refusal, place: usize },
+    Integer(IntegerKind),
+    Float(FloatKind),
+}
+
+pub fn number_kind(text: &[u8], token: Token) -> NumberKind
+    ensures { λ r. ⌜ HereNumber (now (text .entry)) token r ⌝ }
+{
+    match present(text, token) {
+        TokenCheck::Refused { refusal, place } => NumberKind::Refused { refusal, place },
+        TokenCheck::There => {
+            let kind = token.kind;
+            match kind {
+                TokenKind::Integer(i) => NumberKind::Integer(i),
+                TokenKind::Float(f) => NumberKind::Float(f),
+                _ => NumberKind::Refused {
+                    refusal: Refusal::NotThatKind,
+                    place: NO_PLACE,
+                },
+            }
+        }
+    }
+}

@@ -1,3 +1,0 @@
-pub mod HexLaws
-pub mod CharLaws
-mod LeadLaws

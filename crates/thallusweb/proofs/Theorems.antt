@@ -1,0 +1,127 @@
+-- What is proved, on one page: the theorems that a user relies on, as they are stated where they are proved. That the code
+-- gives the answers of which they speak is what the contracts of the public calls say (docs/PROMISES.md). Assumes nothing.
+use Prim.Native.Nat.{ℕ, _≤_}
+use mathlib.Core.Path.{_≡_}
+use mathlib.Core.Bool.{true}
+use mathlib.Core.List.{List, [], _++_}
+use lib.ListN.{length, take, drop}
+use Rattle.wat.specs.declared.{Answer.Answer, TokenKind.TokenKind, Checked.Checked, Found.Found, Parsed.Parsed, Listed.Listed}
+use Rattle.wat.specs.declared.{Refusal.Refusal, Token.Token, Settings.Settings, LexError.LexError}
+use Rattle.wat.specs.declared.Answer.the-variants as answer
+use Rattle.wat.specs.declared.Stop.the-variants as stop
+use Rattle.wat_values.specs.declared.{Reading.Reading, IntegerSign.IntegerSign, FloatSign.FloatSign}
+use Rattle.messages.specs.declared.Told.{Told}
+use Rattle.place.specs.declared.{Place.Place, Moved.Moved}
+use Rattle.wat.specs.Settings.{lenient}
+use Rattle.wat.specs.Utf8.{WellFormed, Says}
+use Rattle.wat.specs.Tokens.{Tok}
+use Rattle.wat.specs.Lexing.{Longest, Lexed}
+use Rattle.wat.specs.Calls.{Stands, Parses, Annotates, at}
+use Rattle.wat.specs.Division.{Piece, Divided, Listing}
+use Rattle.wat.specs.LexModel.{lex}
+use Rattle.wat_values.specs.Values.{Reader, Value, Reads}
+use Rattle.wat_values.specs.Reading.{Read, Second, ReadsSign, ReadsNegative}
+use Rattle.messages.specs.Messages.{Tells}
+use Rattle.place.specs.Places.{Moves}
+use Rattle.wat.proofs.OneKind as kinds
+use Rattle.wat.proofs.Unique as unique
+use Rattle.wat.proofs.Utf8Laws as utf8
+use Rattle.wat_laws.proofs.Total as total
+use Rattle.wat_laws.proofs.Answers as answers
+use Rattle.wat_laws.proofs.OneCall as calls
+use Rattle.wat_laws.proofs.Divisions.{Division}
+use Rattle.wat_laws.proofs.Divisions as divisions
+use Rattle.wat_laws.proofs.Listings.{Whole}
+use Rattle.wat_laws.proofs.Listings as listings
+use Rattle.wat_values.proofs.Readable.{Passes}
+use Rattle.wat_values.proofs.Readable as readable
+use Rattle.wat_values.proofs.OneValue as values
+use Rattle.wat_values.proofs.OneReading as reading
+use Rattle.messages.proofs.OneMessage as message
+use Rattle.place.proofs.OnePlace as place
+
+-- ---- what passes can be read
+
+-- A text that the listing carries from byte 0 to its end is divided in one way only, and each of its tokens, read there or
+-- alone with a buffer no shorter than itself, yields its one value. Only a name that is empty or not UTF-8 is refused.
+pub passes-readable : {σ : Settings} {text : List ℕ} {budget : ℕ} {list l : List ℕ} {r : Listed}
+    → Listing σ text 0 budget list r l → r .stop ≡ stop.End → Passes σ text list r l
+passes-readable x e = readable.passes-readable x e
+
+-- Its tokens are that division, as many as were counted, and the list has their records.
+pub listed-whole : {σ : Settings} {text : List ℕ} {budget : ℕ} {list l : List ℕ} {r : Listed}
+    → Listing σ text 0 budget list r l → r .stop ≡ stop.End → Whole σ text list r l
+listed-whole x e = listings.listed-whole x e
+
+-- Every byte belongs to a token, none is empty, each is the longest, and no other tokens divide the text.
+pub one-division : {σ : Settings} {s : List ℕ} {ts : List Piece} → Divided σ s ts [] → Division σ s ts
+one-division d = divisions.one-division d
+
+-- ---- one token
+
+-- What is left of a text has one answer,
+pub lexed-one : {σ : Settings} {s : List ℕ} {r r′ : Answer} → Lexed σ s r → Lexed σ s r′ → r ≡ r′
+lexed-one a b = unique.lexed-one a b
+
+-- and has one wherever it is UTF-8: the one that the model computes.
+pub lexed : (σ : Settings) {s : List ℕ} → WellFormed s → Lexed σ s (lex σ s)
+lexed σ w = total.lexed σ w
+
+-- The same bytes are a token of one kind.
+pub one-kind : {k j : TokenKind} {w : List ℕ} → Tok k w → Tok j w → k ≡ j
+one-kind p q = kinds.one-kind p q
+
+-- What is a token with a setting off is the same token with everything allowed,
+pub lexed-lenient : {σ : Settings} {s : List ℕ} {k : TokenKind} {n : ℕ} → WellFormed s
+    → Lexed σ s (answer.Token k n) → Lexed lenient s (answer.Token k n)
+lexed-lenient w l = answers.lexed-lenient w l
+
+-- and the token's bytes, lexed alone, give the same token.
+pub lexed-alone : {σ : Settings} {s : List ℕ} {k : TokenKind} {n : ℕ} → WellFormed s
+    → Lexed σ s (answer.Token k n) → Lexed σ (take n s) (answer.Token k n)
+lexed-alone w l = answers.lexed-alone w l
+
+-- Where two texts have the same rest, they have the same answer there.
+pub same-rest : (σ : Settings) {x y : List ℕ} {p q : ℕ} → Stands x p → Stands y q → drop p x ≡ drop q y
+    → (a : Answer) × Parses σ x p (at p a) × Parses σ y q (at q a)
+same-rest σ s t e = calls.same-rest σ s t e
+
+-- ---- each call has one answer, lent bytes included
+
+pub says-one : (s : List ℕ) (r q : Checked) → Says s r → Says s q → r ≡ q
+says-one s r q a b = utf8.says-one s r q a b
+
+pub parses-one : {σ : Settings} {text : List ℕ} {pos : ℕ} {a b : Parsed} → Parses σ text pos a → Parses σ text pos b → a ≡ b
+parses-one a b = calls.parses-one a b
+
+pub annotates-one : {σ : Settings} {text : List ℕ} {pos : ℕ} {a b : Found}
+    → Annotates σ text pos a → Annotates σ text pos b → a ≡ b
+annotates-one a b = calls.annotates-one a b
+
+pub listing-one : {σ : Settings} {text : List ℕ} {start budget : ℕ} {list l l′ : List ℕ} {r r′ : Listed}
+    → Listing σ text start budget list r l → Listing σ text start budget list r′ l′ → (r ≡ r′) × (l ≡ l′)
+listing-one a b = listings.listing-one a b
+
+pub reads-one : {r : Reader} {k : TokenKind} {w : List ℕ} {v v′ : Value} → Reads r k w v → Reads r k w v′ → v ≡ v′
+reads-one a b = values.reads-one a b
+
+pub read-one : {reader : Reader} {text buffer b b′ : List ℕ} {token : Token} {a a′ : Reading}
+    → Read reader text token buffer a b → Read reader text token buffer a′ b′ → (a ≡ a′) × (b ≡ b′)
+read-one x y = reading.read-one x y
+
+pub second-one : {text buffer v w : List ℕ} {a : Reading} → Second text buffer a v → Second text buffer a w → v ≡ w
+second-one x y = reading.second-one x y
+
+pub reads-sign-one : {text : List ℕ} {token : Token} {a b : IntegerSign}
+    → ReadsSign text token a → ReadsSign text token b → a ≡ b
+reads-sign-one x y = reading.reads-sign-one x y
+
+pub reads-negative-one : {text : List ℕ} {token : Token} {a b : FloatSign}
+    → ReadsNegative text token a → ReadsNegative text token b → a ≡ b
+reads-negative-one x y = reading.reads-negative-one x y
+
+pub tells-one : {r : Refusal} {buffer b b′ : List ℕ} {a a′ : Told} → Tells r buffer a b → Tells r buffer a′ b′ → (a ≡ a′) × (b ≡ b′)
+tells-one x y = message.tells-one x y
+
+pub moves-one : {from : Place} {w : List ℕ} {a b : Moved} → Moves from w a → Moves from w b → a ≡ b
+moves-one x y = place.moves-one x y

@@ -1,0 +1,2 @@
+mod DecimalLaws
+pub mod WritingLaws

@@ -1,3 +1,0 @@
-mod ScanLaws
-mod FollowingLaws
-mod ResumeLaws

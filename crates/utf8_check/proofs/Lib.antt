@@ -1,0 +1,4 @@
+mod ScanLaws
+mod FollowingLaws
+mod PassLaws
+mod ResumeLaws

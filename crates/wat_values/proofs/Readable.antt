@@ -1,0 +1,128 @@
+-- What passes can be read: a text that the listing carries from byte 0 to its end is divided in one way only, and each of its tokens, handed to its reader with a
+-- buffer no shorter than itself, yields the value of the definitions. The one refusal left is a name that is empty or not UTF-8. Assumes nothing.
+use Prim.Native.Nat.{ℕ, _≤_}
+use mathlib.Core.Path.{_≡_, refl, sym, subst}
+use mathlib.Core.Logic.{_↔_}
+use mathlib.Core.List.{List, [], _∷_, _++_}
+use native.Mathlib.Omega.{arith}
+use lib.ListN.{length, drop}
+use lib.Seq.{take-take}
+use Rattle.wat.specs.declared.{Token.Token, LexError.LexError, Refusal.Refusal, Refusal.the-variants.Lexical, Listed.Listed}
+use Rattle.wat_values.specs.declared.Reading.{Reading}
+use Rattle.wat.specs.declared.Answer.the-variants as answer
+use Rattle.wat_values.specs.declared.Reading.the-variants.{Refused, Absent, Text, Buffer}
+use Rattle.wat.specs.declared.Stop.the-variants as stop
+use Rattle.wat.specs.declared.Settings.{Settings}
+use Rattle.wat.specs.Utf8.{WellFormed}
+use Rattle.wat.specs.Tokens.{Tok}
+use Rattle.wat.specs.Lexing.{Lexed}
+use Rattle.wat.specs.Calls.{Stands}
+use Rattle.wat.specs.Division.{Piece, lengths, Listing}
+use Rattle.wat_values.specs.Values.{Reader, Takes, Value, part, copy, absent, refused, Reads}
+use Rattle.wat_values.specs.Names.{Misnamed}
+use Rattle.wat_values.specs.Reading.{There, own, needs, found, Handed, Read, Second}
+use Rattle.wat.proofs.Basics.{differ}
+use Rattle.wat_laws.proofs.Listings.{Whole, listed-whole}
+use Rattle.wat_values.proofs.OneValue.{reads-one, reads as reads-some}
+use Rattle.wat_values.proofs.OneReading.{read-one}
+use Rattle.wat_values.proofs.ValueLaws.{needs-short, Within, within}
+use Rattle.wat_values.proofs.ReadingLaws.{at-piece, is-token, token-long, is-there, is-alone, listed-stands, copy-taken, part-taken, refusal}
+
+-- ---- the statement
+
+-- the bytes of a value: those of the text or of the copy, and none where it is absent or refused
+abbrev pub bytesOf : Value → List ℕ
+bytesOf (part n v) = v
+bytesOf (copy v) = v
+bytesOf absent = []
+bytesOf (refused v e) = []
+
+-- a buffer after a value was copied to its front
+abbrev pub filled : Value → List ℕ → List ℕ
+filled v buffer = needs v ++ drop (length (needs v)) buffer
+
+-- the reader's two calls yield the value v of the token
+pub record Yields (reader : Reader) (text : List ℕ) (token : Token) (v : Value) (buffer : List ℕ) : Type 0 where
+  -- the first call answers where the value is, and copies it where it is a copy
+  pub answers : Read reader text token buffer (found (token .offset) v) (filled v buffer)
+  -- it has no other answer, and leaves no other buffer
+  pub only : (a : Reading) (b : List ℕ) → Read reader text token buffer a b → (a ≡ found (token .offset) v) × (b ≡ filled v buffer)
+  -- the second call, given that answer, hands over the value's bytes
+  pub hands : Second text (filled v buffer) (found (token .offset) v) (bytesOf v)
+
+-- the token, with the offset 0
+abbrev pub moved : Token → Token
+moved token = record { kind = token .kind; offset = 0; len = token .len }
+
+-- the reader can read the token
+pub record Readable (reader : Reader) (text : List ℕ) (token : Token) : Type 0 where
+  -- the definitions give the token's own bytes a value, and no other
+  pub value : Value
+  pub reads : Reads reader (token .kind) (own text token) value
+  pub one : (v : Value) → Reads reader (token .kind) (own text token) v → v ≡ value
+  -- with each buffer that is no shorter than the token, the calls yield it
+  pub there : (buffer : List ℕ) → token .len ≤ length buffer → Yields reader text token value buffer
+  -- and they yield the same where the text is the token's own bytes and nothing else
+  pub alone : (buffer : List ℕ) → token .len ≤ length buffer → Yields reader (own text token) (moved token) value buffer
+  -- the answer is a refusal exactly where the name is empty (23, 24) or not UTF-8 (22), and stands at the token's offset:
+  -- none is 1 to 4, 30, 31 or 32
+  pub refuses : (r : Refusal) (p : ℕ)
+      → (found (token .offset) value ≡ Refused r p)
+      ↔ ((e : LexError) × (r ≡ Lexical e) × (p ≡ token .offset) × Misnamed reader (own text token) e)
+
+-- a text passes, with the report r and the list l afterwards
+pub record Passes (σ : Settings) (text list : List ℕ) (r : Listed) (l : List ℕ) : Type 0 where
+  -- it is divided end to end, in one way only, into as many tokens as were counted, and the list has their records
+  pub whole : Whole σ text list r l
+  -- each of these tokens, whose offset is the lengths before it, can be read by each reader that takes its kind
+  pub readable : (us vs : List Piece) (t : Piece) → whole .tokens ≡ us ++ (t ∷ vs) → (reader : Reader) → Takes reader (t .kind)
+      → Readable reader text (record { kind = t .kind; offset = lengths us; len = t .len })
+
+-- ---- the proof
+
+hands-over : (text : List ℕ) (token : Token) (v : Value) (w buffer : List ℕ) → own text token ≡ w → token .offset ≤ length text → Within w v
+    → Second text (filled v buffer) (found (token .offset) v) (bytesOf v)
+hands-over text token (part n v) w buffer e h i = part-taken text token w e buffer n v h i
+hands-over text token (copy v) w buffer e h i = copy-taken text v (drop (length v) buffer)
+hands-over text token absent w buffer e h i =
+    Second.none (λ s l (q : Absent ≡ Text s l). differ (cc)) (λ s l (q : Absent ≡ Buffer s l). differ (cc))
+hands-over text token (refused v x) w buffer e h i =
+    Second.none (λ s l (q : Refused (Lexical x) (token .offset) ≡ Text s l). differ (cc))
+    (λ s l (q : Refused (Lexical x) (token .offset) ≡ Buffer s l). differ (cc))
+
+yields : {reader : Reader} {text : List ℕ} {token : Token} {v : Value} (w buffer : List ℕ) → own text token ≡ w → There text token → Tok (token .kind) w
+    → Reads reader (token .kind) w v → length w ≤ length buffer → Yields reader text token v buffer
+yields {reader} {text} {token} {v} w buffer e t k r h =
+    let s : length (needs v) ≤ length buffer = omega (arith, needs-short r) in
+    let o : Reads reader (token .kind) (own text token) v = subst (λ (z : List ℕ). Reads reader (token .kind) z v) (sym e) r in
+    let a : Read reader text token buffer (found (token .offset) v) (filled v buffer) = Read.reads t o (Handed.fits s) in
+    record { answers = a; only = λ x b y. read-one y a; hands = hands-over text token v w buffer e (t .stands .within) (within k r) }
+
+token-readable : {σ : Settings} {text : List ℕ} {reader : Reader} (token : Token) → Stands text 0 → WellFormed (drop (token .offset) text)
+    → Lexed σ (drop (token .offset) text) (answer.Token (token .kind) (token .len)) → Takes reader (token .kind) → Readable reader text token
+token-readable {text = text} token start g l takes =
+    let w = own text token in
+    let n = token-long l in
+    let k = is-token l in
+    let v = reads-some k takes in
+    let same : own w (moved token) ≡ w = take-take (token .len) (token .len) (drop (token .offset) text) (omega arith) in
+    record {
+      value = v .0;
+      reads = v .1;
+      one = λ u x. reads-one x (v .1);
+      there = λ buffer b. yields w buffer refl (is-there token start g l) k (v .1) (omega arith);
+      alone = λ buffer b. yields w buffer same (is-alone token start g l) k (v .1) (omega arith);
+      refuses = refusal (token .offset) (v .1);
+    }
+
+-- what passes can be read: each text that the listing carries from byte 0 to its end
+pub passes-readable : {σ : Settings} {text : List ℕ} {budget : ℕ} {list l : List ℕ} {r : Listed} → Listing σ text 0 budget list r l → r .stop ≡ stop.End → Passes σ text list r l
+passes-readable x e =
+    let whole = listed-whole x e in
+    let start = listed-stands x e in
+    record {
+      whole = whole;
+      readable = λ us vs t q reader takes.
+          let p = at-piece (start .between) (whole .divided) us vs t q in
+          token-readable (record { kind = t .kind; offset = lengths us; len = t .len }) start (p .0) (p .1) takes;
+    }

@@ -1,0 +1,130 @@
+-- Texts on both sides of the line, and what the definitions say of each: one statement over one table. Assumes nothing.
+use Prim.Native.Nat.{ℕ}
+use Prim.Native.String.{String}
+use mathlib.Core.Path.{_≡_, refl, subst}
+use mathlib.Core.Bool.{false}
+use mathlib.Core.List.{List, [], _∷_, map}
+use Rattle.wat.specs.Faults.{fault}
+use Rattle.wat.specs.declared.FloatKind.the-variants.{Normal}
+use Rattle.wat.specs.declared.Sign.the-variants.{Unsigned}
+use Rattle.wat.specs.declared.TokenKind.{TokenKind}
+use Rattle.wat.specs.declared.TokenKind.the-variants as kind
+use Rattle.wat.specs.declared.LexError.the-variants.{DanglingBlockComment, InvalidUnicodeValue, LoneUnderscore, EmptyId}
+use Rattle.wat.specs.declared.Answer.{Answer}
+use Rattle.wat.specs.declared.Answer.the-variants.{End, Token, Fault}
+use Rattle.wat.specs.declared.Checked.the-variants.{Ok}
+use Rattle.wat.specs.Bytes.{bytes, between, has}
+use Rattle.wat.specs.Settings.{plain}
+use Rattle.wat.specs.Numbers.{digit, marks, Digits, Signed, Fraction, Exponent}
+use Rattle.wat.specs.NumberModel.{classify, run, strip, after-dot, fraction, sign-of, after-sign, exponent, at-end, then, decide, finite, is, nothing-left, payload, unsigned}
+use Rattle.wat.specs.Utf8.{WellFormed, Says, scalar, table}
+use Rattle.wat.specs.Utf8Model.{front, scan, checked}
+use Rattle.wat.specs.Chars.{idchar, letter, space, newline, punctuation, confusing, control, isScalar}
+use Rattle.wat.specs.Strings.{escapes, Elems, Str}
+use Rattle.wat.specs.StringModel.{peek, hexOf, digits, encode, closeBy, numberBy, firstBy, braceBy, secondBy, escapeBy, hides, readBy, read}
+use Rattle.wat.specs.RunModel.{body, walk}
+use Rattle.wat.specs.CommentModel.{opens, ends}
+use Rattle.wat.specs.LexModel.{family, count, word, whole, quotedKind, runKind, kindOf, hidden, comment, lex}
+use Rattle.wat.specs.Lexing.{Lexed}
+use Rattle.wat_values.specs.Values.{Reader, Value, part, absent, refused, copyOrPart, bare, Name, Split, Reads}
+use Rattle.wat_values.specs.declared.FloatPart.the-variants as the
+use Rattle.wat_values.specs.Values as reader
+use Rattle.wat.proofs.Utf8Laws.{checked-says}
+use Rattle.wat_laws.proofs.Total.{lexed}
+
+abbrev All : {A : Type 0} → (A → Type 0) → List A → Type 0
+All P [] = Unit {0}
+All P (x ∷ xs) = P x × All P xs
+
+-- a text, its answer under the settings of a new lexer, and what readers leave of the token
+pub record Row : Type 0 where
+  pub text : List ℕ
+  pub answer : Answer
+  pub reads : List (Reader × Value)
+
+abbrev row : String → Answer → Row
+row t a = record { text = bytes t; answer = a; reads = [] }
+
+abbrev float : TokenKind
+float = kind.Float (Normal false false)
+
+unfoldable pub rows : List Row
+rows =
+    row "" End
+    ∷ row "(;)" (Fault (fault DanglingBlockComment 0 0))
+    ∷ row "(;;)" (Token kind.BlockComment 4)
+    ∷ row "(;(;;)" (Fault (fault DanglingBlockComment 0 0))
+    ∷ row "1__0" (Token kind.Reserved 4)
+    ∷ record { text = bytes "1."; answer = Token float 2; reads = (reader.float the.Integral, part 0 (bytes "1")) ∷ (reader.float the.Exponent, absent) ∷ [] }
+    ∷ record { text = bytes "1.e5"; answer = Token float 4; reads = (reader.float the.Integral, part 0 (bytes "1")) ∷ (reader.float the.Exponent, part 3 (bytes "5")) ∷ [] }
+    ∷ row "nan:0x" (Token kind.Keyword 6)
+    ∷ row "+nan:0x" (Token kind.Reserved 7)
+    ∷ row "a\"x\"" (Token kind.Reserved 4)
+    ∷ row "\"a\"\"b\"" (Token kind.Reserved 6)
+    ∷ record { text = bytes "$\"\""; answer = Token kind.Id 3; reads = (reader.id, refused [] EmptyId) ∷ [] }
+    ∷ row "\"\\u{d800}\"" (Fault (fault (InvalidUnicodeValue 0xD800) 7 8))
+    ∷ row "\"\\u{1_}\"" (Fault (fault LoneUnderscore 5 6))
+    ∷ []
+
+-- what the definitions say of a row
+abbrev Leaves : Answer → List ℕ → List (Reader × Value) → Type 0
+Leaves (Token k n) w rs = All (λ r. Reads (r .0) k w (r .1)) rs
+Leaves End w rs = Unit {0}
+Leaves (Fault f) w rs = Unit {0}
+
+abbrev Holds : Row → Type 0
+Holds r = Lexed plain (r .text) (r .answer) × Leaves (r .answer) (r .text) (r .reads)
+
+-- the model gives each row's answer, and each row's text is well formed
+rows-right : map (λ (r : Row). lex plain (r .text)) rows ≡ map (λ (r : Row). r .answer) rows
+unfolding rows classify run strip after-dot fraction sign-of after-sign exponent at-end then decide finite is nothing-left payload unsigned digit between marks has scalar table front idchar letter space newline punctuation confusing control isScalar escapes peek hexOf digits encode closeBy numberBy firstBy braceBy secondBy escapeBy hides readBy read body walk opens ends family count word whole quotedKind runKind kindOf hidden comment lex
+rows-right = refl
+
+rows-formed : map (λ (r : Row). checked (r .text)) rows ≡ map (λ (r : Row). Ok) rows
+unfolding rows table front scan checked
+rows-formed = refl
+
+-- what the readers leave, put together by the rules
+one : Digits false (bytes "1")
+unfolding digit between
+one = Digits.last refl
+
+five : Exponent false (bytes "e5")
+unfolding digit between marks
+five = Exponent.power refl Signed.unsigned (Digits.last refl)
+
+dot : Split false (bytes "1.") Unsigned [] (bytes "1") (bytes ".") []
+dot = record { signed = Signed.unsigned; whole = one; after = Fraction.dot; power = Exponent.none; is = refl }
+
+power : Split false (bytes "1.e5") Unsigned [] (bytes "1") (bytes ".") (bytes "e5")
+power = record { signed = Signed.unsigned; whole = one; after = Fraction.dot; power = five; is = refl }
+
+dot-reads : Leaves (Token float 2) (bytes "1.")
+    ((reader.float the.Integral, part 0 (bytes "1")) ∷ (reader.float the.Exponent, absent) ∷ [])
+unfolding copyOrPart bare digit between marks has dot
+dot-reads = (Reads.an-integral dot, (Reads.no-exponent dot, tt))
+
+power-reads : Leaves (Token float 4) (bytes "1.e5")
+    ((reader.float the.Integral, part 0 (bytes "1")) ∷ (reader.float the.Exponent, part 3 (bytes "5")) ∷ [])
+unfolding copyOrPart bare digit between marks has power five
+power-reads = (Reads.an-integral power, (Reads.an-exponent power Signed.unsigned (Digits.last refl), tt))
+
+nothing-read : Leaves (Token kind.Id 3) (bytes "$\"\"") ((reader.id, refused [] EmptyId) ∷ [])
+nothing-read = (Reads.an-id (Name.quoted-nothing (Str.quoted Elems.none)), tt)
+
+rows-read : All (λ r. Leaves (r .answer) (r .text) (r .reads)) rows
+unfolding rows
+rows-read = (tt, (tt, (tt, (tt, (tt, (dot-reads, (power-reads, (tt, (tt, (tt, (tt, (nothing-read, (tt, (tt, tt))))))))))))))
+
+-- each row holds
+by-model : (rs : List Row) → map (λ (r : Row). lex plain (r .text)) rs ≡ map (λ (r : Row). r .answer) rs → map (λ (r : Row). checked (r .text)) rs ≡ map (λ (r : Row). Ok) rs
+    → All (λ r. Leaves (r .answer) (r .text) (r .reads)) rs → All Holds rs
+by-model [] e f m = tt
+by-model (r ∷ rs) e f m =
+    let h : lex plain (r .text) ≡ r .answer = cc in
+    let g : checked (r .text) ≡ Ok = cc in
+    let w : WellFormed (r .text) = subst (Says (r .text)) g (checked-says (r .text)) in
+    ((rw h at (lexed plain w), m .0), by-model rs (cc) (cc) (m .1))
+
+pub rows-hold : All Holds rows
+rows-hold = by-model rows rows-right rows-formed rows-read

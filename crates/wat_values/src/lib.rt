@@ -1,0 +1,33 @@
+// What the readers answer. Which answer is right is said in specs/: what each reader leaves of a token's bytes, over wat's definitions.
+use wat::Refusal;
+use wat::Sign;
+
+// The place of a refusal that has none: no such token (30), another kind (31), too short a buffer (32).
+pub const NO_PLACE: usize = 0;
+
+// What a reader's first call answers: a refusal and its place, nothing, or where the value's bytes are.
+pub enum Reading {
+    Refused { refusal: Refusal, place: usize },
+    Absent,
+    Text { start: usize, len: usize },
+    Buffer { start: usize, len: usize },
+}
+
+// A part of a float: the digits before its point, after it, and of its exponent; those of a NaN after `nan:0x`.
+pub enum FloatPart {
+    Integral,
+    Fraction,
+    Exponent,
+    Payload,
+}
+
+pub enum IntegerSign {
+    Refused { refusal: Refusal, place: usize },
+    Sign(Sign),
+}
+
+pub enum FloatSign {
+    Refused { refusal: Refusal, place: usize },
+    Absent,
+    Negative(bool),
+}
