@@ -24,7 +24,8 @@ module _ (v : ℕ) where
   unfolding encode
   code-3 h k = rw (le-ltb v 0x80 (omega arith), le-ltb v 0x800 h, lt-ltb v 0x10000 k)
 
-  code-4 : 0x10000 ≤ v → encode v ≡ (0xF0 + v / 0x40000) ∷ (0x80 + v / 0x1000 % 0x40) ∷ (0x80 + v / 0x40 % 0x40) ∷ (0x80 + v % 0x40) ∷ []
+  code-4 : 0x10000 ≤ v → encode v
+      ≡ (0xF0 + v / 0x40000) ∷ (0x80 + v / 0x1000 % 0x40) ∷ (0x80 + v / 0x40 % 0x40) ∷ (0x80 + v % 0x40) ∷ []
   unfolding encode
   code-4 h = rw (le-ltb v 0x80 (omega arith), le-ltb v 0x800 (omega arith), le-ltb v 0x10000 h)
 
@@ -55,7 +56,8 @@ module _ (d : List ℕ) (to v : ℕ) where
   put-code-2 a b room h k p q = rw (add-one to) (stored (a ∷ b ∷ []) (rw (p, q) (code-2 v h k)) room)
 
   pub put-code-3 :
-      (a b c : ℕ) → to + 3 ≤ length d → 0x800 ≤ v → v < 0x10000 → a ≡ 0xE0 + v / 0x1000 → b ≡ 0x80 + v / 0x40 % 0x40 → c ≡ 0x80 + v % 0x40
+      (a b c : ℕ) → to + 3 ≤ length d → 0x800 ≤ v → v < 0x10000 → a ≡ 0xE0 + v / 0x1000
+      → b ≡ 0x80 + v / 0x40 % 0x40 → c ≡ 0x80 + v % 0x40
       → Put d (set (set (set d to a) (to + 1) b) (to + 2) c) to (encode v)
   put-code-3 a b c room h k p q r = rw (add-one to, add-two to) (stored (a ∷ b ∷ c ∷ []) (rw (p, q, r) (code-3 v h k)) room)
 

@@ -19,14 +19,16 @@ put-stores d to v h = record { fits = h; is = sets-eq v d to h }
 pub put-one : (d : List ℕ) (to b : ℕ) → to < length d → Put d (set d to b) to (b ∷ [])
 put-one d to b h = put-stores d to (b ∷ []) (omega arith)
 
-pub put-copy : (d e : List ℕ) (to : ℕ) (w : List ℕ) (n : ℕ) → to + n ≤ length d → n ≤ length w → e ≡ paste d to w n → Put d e to (take n w)
+pub put-copy : (d e : List ℕ) (to : ℕ) (w : List ℕ) (n : ℕ) → to + n ≤ length d → n ≤ length w
+    → e ≡ paste d to w n → Put d e to (take n w)
 put-copy d e to w n h k q =
     let l = length-take-le n w k in
     record { fits = omega arith; is = rw l q }
 
 -- a turn of the loop that copies
 pub copy-more :
-    (d e : List ℕ) (to : ℕ) (s : List ℕ) (from k : ℕ) → to + k < length d → from + k < length s → e ≡ paste d to (drop from s) k
+    (d e : List ℕ) (to : ℕ) (s : List ℕ) (from k : ℕ) → to + k < length d → from + k < length s
+    → e ≡ paste d to (drop from s) k
     → set e (to + k) (getD s (from + k) 0) ≡ paste d to (drop from s) (k + 1)
 copy-more d e to s from k h l q =
     rw (q, ← getD-drop from s k 0, add-one k) (paste-suc d to (drop from s) k 0 h (omega (arith, length-drop from s)))

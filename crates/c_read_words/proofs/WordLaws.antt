@@ -13,6 +13,7 @@ pub sign-words : {i : IntegerSign} {s : Sign} (is : Sign) → i ≡ integer.Sign
     → 1 ∷ signWord is ∷ 0 ∷ 0 ∷ 0 ∷ [] ≡ integerSignWords i
 sign-words is p q = sym (ap integerSignWords (p ∙ ap integer.Sign q))
 
-pub negative-words : {f : FloatSign} (b : Bool) → f ≡ float.Negative b → 1 ∷ boolByte b ∷ 0 ∷ 0 ∷ 0 ∷ [] ≡ floatSignWords f
+pub negative-words : {f : FloatSign} (b : Bool) → f ≡ float.Negative b
+    → 1 ∷ boolByte b ∷ 0 ∷ 0 ∷ 0 ∷ [] ≡ floatSignWords f
 negative-words true p = sym (ap floatSignWords p)
 negative-words false p = sym (ap floatSignWords p)

@@ -18,7 +18,8 @@ module _ {text buffer w : List ℕ} where
   of-buffer e (Lies.inside h) = PartWords.in-buffer e h
   of-buffer e (Lies.outside h) = PartWords.none (λ q. absurd (omega arith)) (λ q. h)
 
-pub of-neither : {text buffer w : List ℕ} → (getD w 0 0 ≡ 1 → ⊥) → (getD w 0 0 ≡ 3 → ⊥) → PartWords text buffer w (0 ∷ 0 ∷ 0 ∷ [])
+pub of-neither : {text buffer w : List ℕ} → (getD w 0 0 ≡ 1 → ⊥) → (getD w 0 0 ≡ 3 → ⊥)
+    → PartWords text buffer w (0 ∷ 0 ∷ 0 ∷ [])
 of-neither p q = PartWords.none (λ e. absurd (p e)) (λ e. absurd (q e))
 
 -- the second call has one answer
@@ -33,7 +34,8 @@ part-words-one (PartWords.none t b) (PartWords.in-text f k) = absurd (omega (ari
 part-words-one (PartWords.none t b) (PartWords.in-buffer f k) = absurd (omega (arith, b f))
 part-words-one (PartWords.none t b) (PartWords.none u c) = refl
 
-pub moved-words-one : {place bytes p q : List ℕ} {a b : Bool} → MovedWords place bytes a p → MovedWords place bytes b q → (a ≡ b) × (p ≡ q)
+pub moved-words-one : {place bytes p q : List ℕ} {a b : Bool} → MovedWords place bytes a p → MovedWords place bytes b q
+    → (a ≡ b) × (p ≡ q)
 moved-words-one (MovedWords.moved m x) (MovedWords.moved n y) =
     let z = moves-one x y in
     (ap (λ (r : Moved). r .ok) z, ap (λ (r : Moved). r .place .line ∷ r .place .column ∷ []) z)

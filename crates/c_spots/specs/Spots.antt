@@ -24,4 +24,5 @@ pub data Lies (what n start len : ℕ) : List ℕ → Type 0 where
 
 -- the place counter: its line and its column
 pub data MovedWords (place bytes : List ℕ) : Bool → List ℕ → Type 0 where
-  moved : (m : Moved) → Moves (record { line = getD place 0 0; column = getD place 1 0 }) bytes m → MovedWords place bytes (m .ok) (m .place .line ∷ m .place .column ∷ [])
+  moved : (m : Moved) → Moves (record { line = getD place 0 0; column = getD place 1 0 }) bytes m
+      → MovedWords place bytes (m .ok) (m .place .line ∷ m .place .column ∷ [])

@@ -9,7 +9,8 @@ use Rattle.wat.specs.declared.Stop.the-variants as stop
 use Rattle.wat.specs.Cases.{kindNumber}
 use Rattle.c_words.specs.Words.{foundWords, parsedWords, stopWords, listedWords}
 
-pub token-words : (t : Token) {n : ℕ} {f : Found} → n ≡ kindNumber (t .kind) → f ≡ found.Token t → 1 ∷ n ∷ t .offset ∷ t .len ∷ 0 ∷ [] ≡ foundWords f
+pub token-words : (t : Token) {n : ℕ} {f : Found} → n ≡ kindNumber (t .kind) → f ≡ found.Token t
+    → 1 ∷ n ∷ t .offset ∷ t .len ∷ 0 ∷ [] ≡ foundWords f
 token-words t p q = ap (λ (k : ℕ). 1 ∷ k ∷ t .offset ∷ t .len ∷ 0 ∷ []) p ∙ sym (ap foundWords q)
 
 -- the first five of a list of words, and then others
@@ -31,4 +32,5 @@ pub parsed-words : (r : Parsed) {w : List ℕ} → w ≡ foundWords (r .found) �
 parsed-words r e = ap (λ (x : List ℕ). five x (r .position ∷ [])) e ∙ found-five (r .found) (r .position ∷ [])
 
 pub listed-words : (r : Listed) {w : List ℕ} → w ≡ stopWords (r .stop) → five w (r .count ∷ r .position ∷ []) ≡ listedWords r
-listed-words r e = ap (λ (x : List ℕ). five x (r .count ∷ r .position ∷ [])) e ∙ stop-five (r .stop) (r .count ∷ r .position ∷ [])
+listed-words r e =
+    ap (λ (x : List ℕ). five x (r .count ∷ r .position ∷ [])) e ∙ stop-five (r .stop) (r .count ∷ r .position ∷ [])

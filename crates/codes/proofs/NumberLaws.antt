@@ -14,7 +14,8 @@ use Rattle.wat.specs.declared.IntegerKind.{IntegerKind}
 use Rattle.wat.specs.declared.FloatKind.{FloatKind}
 use Rattle.wat.specs.declared.FloatKind.the-variants.{Inf, Nan, NanVal, Normal}
 use Rattle.wat.specs.declared.TokenKind.{TokenKind}
-use Rattle.wat.specs.declared.TokenKind.the-variants.{LineComment, BlockComment, Whitespace, LParen, RParen, String, Id, Keyword, Annotation, Reserved, Integer, Float}
+use Rattle.wat.specs.declared.TokenKind.the-variants.{LineComment, BlockComment, Whitespace, LParen, RParen, String, Id, Keyword}
+use Rattle.wat.specs.declared.TokenKind.the-variants.{Annotation, Reserved, Integer, Float}
 use Rattle.wat.specs.Cases.{flag, signNumber, kindNumber}
 use Rattle.wat.proofs.Basics.{differ, never}
 use Rattle.codes.specs.declared.MaybeKind.{MaybeKind}
@@ -98,7 +99,8 @@ pub only-integer : (n : ℕ) → n % 256 ≡ 11 → (s : Sign) → ((i : Integer
     → (k : TokenKind) → kindNumber k ≡ n → k ≡ Integer (record { sign = s; underscores = detail n 1024; hex = detail n 2048 })
 only-integer n z s f k e =
     let q = only n 11 z k e in
-    q ∙ ap (λ (t : Sign). Integer (record { sign = t; underscores = detail n 1024; hex = detail n 2048 })) (f (integer-at n) (sym (ap kindNumber q) ∙ e))
+    q ∙ ap (λ (t : Sign). Integer (record { sign = t; underscores = detail n 1024; hex = detail n 2048 }))
+    (f (integer-at n) (sym (ap kindNumber q) ∙ e))
 
 -- `r` is none of the numbers from 1 to `m`
 abbrev NoneTo : ℕ → ℕ → Type 0

@@ -118,7 +118,8 @@ module _ (text : List ℕ) (pos : ℕ) where
       let w : WellFormed (byte "@" ∷ g .0) = cut (t .formed) (take pos text) (byte "@") (g .0) e (omega arith) .1 in
       record { sound = t; within = omega (arith, length-drop pos text, ap length (g .1)); between = rw (g .1) w }
 
-module _ (σ : Settings) (text : List ℕ) (pos : ℕ) (t : Text text) (g : AtSign text pos) {a : Answer} (l : Lexed σ (drop pos text) a) where
+module _ (σ : Settings) (text : List ℕ) (pos : ℕ) (t : Text text) (g : AtSign text pos) {a : Answer}
+    (l : Lexed σ (drop pos text) a) where
   lexes : {c : Answer} → a ≡ c → Lexed σ (drop pos text) c
   lexes e = answered σ text pos (sign-stands text pos t g) l e
 
@@ -129,7 +130,8 @@ module _ (σ : Settings) (text : List ℕ) (pos : ℕ) (t : Text text) (g : AtSi
       go : Lexed σ (drop pos text) answer.End → Annotates σ text pos found.Nothing
       go (Lexed.end z) = let y : byte "@" ∷ g .0 ≡ [] = sym (g .1) ∙ z in differ (cc)
 
-  pub annotation-fault : {f : Fault} → a ≡ answer.Fault f → Annotates σ text pos (found.Refused (Lexical (f .error)) (pos + f .place))
+  pub annotation-fault : {f : Fault} → a ≡ answer.Fault f
+      → Annotates σ text pos (found.Refused (Lexical (f .error)) (pos + f .place))
   annotation-fault e = Annotates.fault t g (lexes e)
 
   module _ {k : TokenKind} {n : ℕ} (e : a ≡ answer.Token k n) where

@@ -77,12 +77,14 @@ module _ (s : List ℕ) (at end : ℕ) (l : at ≤ end) {r : Hidden}
     (h : r ≡ hiddenIn at end (hidden (suc (length (drop at s))) (drop at s))) where
   answers :
       (σ : Settings) (k : TokenKind) (b : Bool) → σ .«allow_confusing» ≡ b
-      → (comment σ k (end - at) (drop at s) ≡ answer.Token k (end - at)) ⊎ (comment σ k (end - at) (drop at s) ≡ foundAs k at end r)
+      → (comment σ k (end - at) (drop at s) ≡ answer.Token k (end - at))
+      ⊎ (comment σ k (end - at) (drop at s) ≡ foundAs k at end r)
   answers σ k true e = inl (comment-on k s at end σ e)
   answers σ k false e = inr (comment-off k s at end σ e l h)
 
   pub comment-clear : {f : Fault} → r ≡ Clear → (σ : Settings) (k : TokenKind) → Faults at (comment σ k (end - at) (drop at s)) f
-  comment-clear z σ k = ⊎-elim (λ e. fault-none e) (λ e. fault-none (e ∙ ap (foundAs k at end) z)) (answers σ k (σ .«allow_confusing») refl)
+  comment-clear z σ k =
+      ⊎-elim (λ e. fault-none e) (λ e. fault-none (e ∙ ap (foundAs k at end) z)) (answers σ k (σ .«allow_confusing») refl)
 
   pub comment-found :
       {p c : ℕ} → r ≡ Found p c → (σ : Settings) (k : TokenKind)

@@ -95,8 +95,11 @@ module _ (c : ℕ) where
 
   pub hex-lower : 0x61 ≤ c → c ≤ 0x66 → hexOf c ≡ digitOf (c - 0x57)
   unfolding hexOf
-  hex-lower l h = digit-of c (c - 0x57) (omega arith) (rw (between-out 0x30 0x39 c (omega arith), between-out 0x41 0x46 c (omega arith), between-in 0x61 0x66 c l h, hexOf))
+  hex-lower l h =
+      digit-of c (c - 0x57) (omega arith)
+      (rw (between-out 0x30 0x39 c (omega arith), between-out 0x41 0x46 c (omega arith), between-in 0x61 0x66 c l h, hexOf))
 
-  pub hex-none : (0x30 ≤ c → c ≤ 0x39 → ⊥) → (0x41 ≤ c → c ≤ 0x46 → ⊥) → (0x61 ≤ c → c ≤ 0x66 → ⊥) → hexOf c ≡ none
+  pub hex-none : (0x30 ≤ c → c ≤ 0x39 → ⊥) → (0x41 ≤ c → c ≤ 0x46 → ⊥) → (0x61 ≤ c → c ≤ 0x66 → ⊥)
+      → hexOf c ≡ none
   unfolding hexOf
   hex-none p q r = rw (between-out 0x30 0x39 c p, between-out 0x41 0x46 c q, between-out 0x61 0x66 c r, hexOf)

@@ -10,12 +10,14 @@ use Rattle.wat.specs.Bytes.{Each, none, next}
 use Rattle.wat.specs.LexModel.{count}
 use Rattle.lex_classes.specs.Scan.{Scanned, Passed}
 
-pub count-each : {test : ℕ → Bool} {b : Bool} {w : List ℕ} (u : List ℕ) → Each test b w → count test b (w ++ u) ≡ length w + count test b u
+pub count-each : {test : ℕ → Bool} {b : Bool} {w : List ℕ} (u : List ℕ) → Each test b w
+    → count test b (w ++ u) ≡ length w + count test b u
 unfolding count
 count-each {test} {b} u none = omega arith
 count-each {test} {b} u (next {x = x} {t = w} e r) = go b e (count-each u r)
   where
-    go : (b : Bool) → test x ≡ b → count test b (w ++ u) ≡ length w + count test b u → count test b (x ∷ (w ++ u)) ≡ suc (length w) + count test b u
+    go : (b : Bool) → test x ≡ b → count test b (w ++ u) ≡ length w + count test b u
+        → count test b (x ∷ (w ++ u)) ≡ suc (length w) + count test b u
     go true e i = rw (e, count) (omega arith)
     go false e i = rw (e, count) (omega arith)
 
@@ -30,7 +32,8 @@ count-front test b zero s h = none
 count-front test b (suc n) [] h = absurd (omega arith)
 count-front test b (suc n) (x ∷ s) h = go b (test x) refl h (count-front test b n s)
   where
-    go : (b c : Bool) → test x ≡ c → suc n ≤ count test b (x ∷ s) → (n ≤ count test b s → Each test b (take n s)) → Each test b (x ∷ take n s)
+    go : (b c : Bool) → test x ≡ c → suc n ≤ count test b (x ∷ s) → (n ≤ count test b s → Each test b (take n s))
+        → Each test b (x ∷ take n s)
     go true true e h ih = next e (ih (let q : suc n ≤ suc (count test true s) = rw (e, count) at h in omega arith))
     go true false e h ih = absurd (let q : suc n ≤ 0 = rw (e, count) at h in omega arith)
     go false true e h ih = absurd (let q : suc n ≤ 0 = rw (e, count) at h in omega arith)
@@ -48,13 +51,15 @@ count-most test b (x ∷ s) = go b (test x) refl (count-most test b s)
     go false false e h = rw (e, count) (omega arith)
 
 -- what stops a scan
-pub count-next : (test : ℕ → Bool) (b : Bool) (s : List ℕ) → count test b s < length s → test (getD s (count test b s) 0) ≡ not b
+pub count-next : (test : ℕ → Bool) (b : Bool) (s : List ℕ) → count test b s < length s
+    → test (getD s (count test b s) 0) ≡ not b
 unfolding count
 count-next test b [] h = absurd (omega arith)
 count-next test b (x ∷ s) h = go b (test x) refl h (count-next test b s)
   where
     go :
-        (b c : Bool) → test x ≡ c → count test b (x ∷ s) < suc (length s) → (count test b s < length s → test (getD s (count test b s) 0) ≡ not b)
+        (b c : Bool) → test x ≡ c → count test b (x ∷ s) < suc (length s)
+        → (count test b s < length s → test (getD s (count test b s) 0) ≡ not b)
         → test (getD (x ∷ s) (count test b (x ∷ s)) 0) ≡ not b
     go true true e h ih = rw (e, count) (ih (let q : suc (count test true s) < suc (length s) = rw (e, count) at h in omega arith))
     go true false e h ih = rw (e, count) e
@@ -73,7 +78,8 @@ module _ (test : ℕ → Bool) (b : Bool) (s : List ℕ) (at : ℕ) where
   passed-none h = record { on = omega arith; same = refl; within = h }
 
   -- n bytes more
-  pub passed-more : (i n : ℕ) → Passed test b s at i → i + n ≤ length s → Each test b (take n (drop i s)) → Passed test b s at (i + n)
+  pub passed-more : (i n : ℕ) → Passed test b s at i → i + n ≤ length s → Each test b (take n (drop i s))
+      → Passed test b s at (i + n)
   passed-more i n p h e =
       let w = take n (drop i s) in
       let l : length w ≡ n = length-take-le n (drop i s) (omega (arith, length-drop i s)) in

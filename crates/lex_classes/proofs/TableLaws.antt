@@ -1,4 +1,5 @@
--- Tables of 256 entries: a rule that one computed test shows for every entry, and what the table that is lent says of a byte. Assumes nothing.
+-- Tables of 256 entries: a rule that one computed test shows for every entry, and what the table that is lent says of
+-- a byte. Assumes nothing.
 use Prim.Native.Nat.{ℕ, zero, suc, _+_, _*_, _%_, _≤_, _<_}
 use mathlib.Core.Path.{_≡_, refl, ap, _∙_}
 use mathlib.Core.Bool.{Bool, true, false}
@@ -20,10 +21,12 @@ abbrev pub marks : (ℕ → Bool) → ℕ → List ℕ → Bool
 marks test i [] = leb 256 i
 marks test i (x ∷ t) = pick (eqb x (mark (test i))) (marks test (suc i) t) false
 
-from : (test : ℕ → Bool) (t : List ℕ) (i : ℕ) → marks test i t ≡ true → (k : ℕ) → i + k < 256 → getD t k 0 ≡ mark (test (i + k))
+from : (test : ℕ → Bool) (t : List ℕ) (i : ℕ) → marks test i t ≡ true → (k : ℕ) → i + k < 256
+    → getD t k 0 ≡ mark (test (i + k))
 from test [] i e k h = absurd (omega (arith, leb-true 256 i e))
 from test (x ∷ t) i e zero h = rw add-zero (eqb-true x (mark (test i)) (pick-both (eqb x (mark (test i))) _ e .0))
-from test (x ∷ t) i e (suc k) h = from test t (suc i) (pick-both (eqb x (mark (test i))) _ e .1) k (omega arith) ∙ ap (λ (n : ℕ). mark (test n)) (omega arith)
+from test (x ∷ t) i e (suc k) h =
+    from test t (suc i) (pick-both (eqb x (mark (test i))) _ e .1) k (omega arith) ∙ ap (λ (n : ℕ). mark (test n)) (omega arith)
 
 pub marked : (test : ℕ → Bool) (t : List ℕ) → length t ≡ 256 → marks test 0 t ≡ true → Marked test t
 marked test t l e = record { long = l; entry = λ b h. from test t 0 e b (omega arith) ∙ ap (λ (n : ℕ). mark (test n)) (zero-add b) }
@@ -52,7 +55,8 @@ module _ (ws t : List ℕ) (b : ℕ) (h : b < 256) (w : Marked space ws) (m : Me
   merged-next =
       record {
         long = length-set t b _ ∙ m .long;
-        both = below-more _ b (λ k l. getD-set-other t b k _ 0 (λ e. omega (arith, e, l)) ∙ m .both k l) (getD-set-same t b _ 0 (omega (arith, m .long)) ∙ rw (w .entry b h, m .one b (omega arith) h));
+        both = below-more _ b (λ k l. getD-set-other t b k _ 0 (λ e. omega (arith, e, l)) ∙ m .both k l)
+            (getD-set-same t b _ 0 (omega (arith, m .long)) ∙ rw (w .entry b h, m .one b (omega arith) h));
         one = λ k l g. getD-set-other t b k _ 0 (λ e. omega (arith, e, l)) ∙ m .one k (omega (arith, l)) g;
       }
 

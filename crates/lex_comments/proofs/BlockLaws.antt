@@ -48,14 +48,16 @@ closed-some at r (some n) h e = ap some (omega arith)
 
 -- ---- the bytes at the front
 
-ends-plain : {w : List ℕ} (l : ℕ) (u : List ℕ) → Each begins false w → ends fresh l (w ++ u) ≡ further (length w) (ends fresh l u)
+ends-plain : {w : List ℕ} (l : ℕ) (u : List ℕ) → Each begins false w
+    → ends fresh l (w ++ u) ≡ further (length w) (ends fresh l u)
 unfolding ends opens
 ends-plain l u Each.none = sym (further-none (ends fresh l u))
 ends-plain l u (Each.next {x = x} {t = w} e r) =
     let p = or-both (eqb (byte "(") x) (eqb (byte ";") x) (sym (among-or (byte "(") (byte ";") x) ∙ e) in
     let a : eqb x (byte "(") ≡ false = ne-eqb x (byte "(") (λ q. eqb-false (byte "(") x (p .0) (sym q)) in
     let b : eqb x (byte ";") ≡ false = ne-eqb x (byte ";") (λ q. eqb-false (byte ";") x (p .1) (sym q)) in
-    rw (a, b, opens) (ap (further 1) (ends-plain l u r) ∙ further-further 1 (length w) (ends fresh l u) ∙ ap (λ (n : ℕ). further n (ends fresh l u)) (omega arith))
+    rw (a, b, opens) (ap (further 1) (ends-plain l u r) ∙ further-further 1 (length w) (ends fresh l u)
+    ∙ ap (λ (n : ℕ). further n (ends fresh l u)) (omega arith))
 
 module _ (l : ℕ) (t : List ℕ) where
   ends-open : ends fresh l (byte "(" ∷ byte ";" ∷ t) ≡ further 2 (ends fresh (suc l) t)
@@ -96,18 +98,22 @@ module _ (s : List ℕ) (at : ℕ) where
   inside-start h = record { within = h; shallow = omega arith; same = refl }
 
   -- the end of the outermost comment is so many bytes further on, at another level
-  moved : {i l : ℕ} (n m : ℕ) → Inside s at i l → i + n ≤ length s → m ≤ i + n → ends fresh l (drop i s) ≡ further n (ends fresh m (drop (i + n) s)) → Inside s at (i + n) m
-  moved {i} {l} n m p h k e = record { within = h; shallow = k; same = sym (end-further i n (ends fresh m (drop (i + n) s))) ∙ ap (endOf i) (sym e) ∙ p .same }
+  moved : {i l : ℕ} (n m : ℕ) → Inside s at i l → i + n ≤ length s → m ≤ i + n
+      → ends fresh l (drop i s) ≡ further n (ends fresh m (drop (i + n) s)) → Inside s at (i + n) m
+  moved {i} {l} n m p h k e =
+      record { within = h; shallow = k; same = sym (end-further i n (ends fresh m (drop (i + n) s))) ∙ ap (endOf i) (sym e) ∙ p .same }
 
   pub inside-plain : (i l k : ℕ) → Inside s at i l → Passed begins false s i k → Inside s at k l
   inside-plain i l k p q =
       let b = passed-between begins false s i k q in
-      let e : ends fresh l (drop i s) ≡ further (length (b .part)) (ends fresh l (drop k s)) = ap (ends fresh l) (b .seam) ∙ ends-plain l (drop k s) (b .each) in
+      let e : ends fresh l (drop i s) ≡ further (length (b .part)) (ends fresh l (drop k s)) =
+      ap (ends fresh l) (b .seam) ∙ ends-plain l (drop k s) (b .each) in
       rw (b .long) at (moved (length (b .part)) l p (omega (arith, b .long, q .within)) (omega (arith, p .shallow)) (rw (b .long) e))
 
   module _ (k l : ℕ) (p : Inside s at k l) where
     pub inside-none : length s < k + 2 → BlockEnd s at 0
-    inside-none h = record { end = sym (end-none k (ends-short l (drop k s) (omega (arith, length-drop k s)))) ∙ p .same; within = omega arith }
+    inside-none h =
+        record { end = sym (end-none k (ends-short l (drop k s) (omega (arith, length-drop k s)))) ∙ p .same; within = omega arith }
 
     module _ (h : k + 2 ≤ length s) where
       next-two : drop k s ≡ getD s k 0 ∷ getD s (k + 1) 0 ∷ drop (k + 2) s
@@ -122,7 +128,9 @@ module _ (s : List ℕ) (at : ℕ) where
       inside-open a b = moved 2 (l + 1) p h (omega (arith, p .shallow)) (rw (next-two, a, b, add-one l) (ends-open l (drop (k + 2) s)))
 
       pub inside-paren : getD s k 0 ≡ byte "(" → (getD s (k + 1) 0 ≡ byte ";" → ⊥) → Inside s at (k + 1) l
-      inside-paren a n = moved 1 l p (omega arith) (omega (arith, p .shallow)) (rw (next-two, a, next-one) (ends-paren l (drop (k + 2) s) (getD s (k + 1) 0) n))
+      inside-paren a n =
+          moved 1 l p (omega arith) (omega (arith, p .shallow))
+          (rw (next-two, a, next-one) (ends-paren l (drop (k + 2) s) (getD s (k + 1) 0) n))
 
       -- the byte begins a mark, and is no `(`
       module _ (m : begins (getD s k 0) ≡ true) (o : getD s k 0 ≡ byte "(" → ⊥) where
@@ -135,7 +143,8 @@ module _ (s : List ℕ) (at : ℕ) where
         pub inside-close : getD s (k + 1) 0 ≡ byte ")" → 0 < l → Inside s at (k + 2) (l - 1)
         inside-close b d =
             let e : l ≡ suc (l - 1) = omega arith in
-            let f : ends fresh l (drop k s) ≡ further 2 (ends fresh (l - 1) (drop (k + 2) s)) = ap (λ (n : ℕ). ends fresh n (drop k s)) e ∙ rw (next-two, is-semicolon, b) (ends-close (l - 1) (drop (k + 2) s)) in
+            let f : ends fresh l (drop k s) ≡ further 2 (ends fresh (l - 1) (drop (k + 2) s)) =
+            ap (λ (n : ℕ). ends fresh n (drop k s)) e ∙ rw (next-two, is-semicolon, b) (ends-close (l - 1) (drop (k + 2) s)) in
             moved 2 (l - 1) p h (omega (arith, p .shallow)) f
 
         pub inside-last : getD s (k + 1) 0 ≡ byte ")" → l ≡ 0 → BlockEnd s at (k + 2)
@@ -144,4 +153,6 @@ module _ (s : List ℕ) (at : ℕ) where
             record { end = ap (endOf k) (sym f) ∙ p .same; within = h }
 
         pub inside-semicolon : (getD s (k + 1) 0 ≡ byte ")" → ⊥) → Inside s at (k + 1) l
-        inside-semicolon n = moved 1 l p (omega arith) (omega (arith, p .shallow)) (rw (next-two, is-semicolon, next-one) (ends-semicolon l (drop (k + 2) s) (getD s (k + 1) 0) n))
+        inside-semicolon n =
+            moved 1 l p (omega arith) (omega (arith, p .shallow))
+            (rw (next-two, is-semicolon, next-one) (ends-semicolon l (drop (k + 2) s) (getD s (k + 1) 0) n))

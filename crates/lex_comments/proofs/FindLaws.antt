@@ -46,7 +46,8 @@ module _ (x : ℕ) (s : List ℕ) (i k : ℕ) (h : i + k < length s) where
   pub has-found : getD s (i + k) 0 ≡ x → true ≡ has x (take (k + 1) (drop i s))
   has-found e = rw (take-next s i k h, has-append, eq-eqb (getD s (i + k) 0) x e) (sym (or-true (has x (take k (drop i s)))))
 
-  pub has-still : (r : Bool) → r ≡ has x (take k (drop i s)) → (getD s (i + k) 0 ≡ x → ⊥) → r ≡ has x (take (k + 1) (drop i s))
+  pub has-still : (r : Bool) → r ≡ has x (take k (drop i s)) → (getD s (i + k) 0 ≡ x → ⊥)
+      → r ≡ has x (take (k + 1) (drop i s))
   has-still r p n = rw (take-next s i k h, has-append, ne-eqb (getD s (i + k) 0) x n) (p ∙ sym (or-false (has x (take k (drop i s)))))
 
 -- ---- the place of the first
@@ -56,7 +57,8 @@ unfoldable pub bits : (ℕ → Bool) → List ℕ → ℕ
 bits test [] = 1
 bits test (b ∷ w) = mark (test b) + 2 * bits test w
 
-bits-append : (test : ℕ → Bool) (b : ℕ) (w : List ℕ) → bits test (w ++ (b ∷ [])) ≡ bits test w + (1 + mark (test b)) * 2 ^ length w
+bits-append : (test : ℕ → Bool) (b : ℕ) (w : List ℕ)
+    → bits test (w ++ (b ∷ [])) ≡ bits test w + (1 + mark (test b)) * 2 ^ length w
 unfolding bits
 bits-append test b [] = omega arith
 bits-append test b (a ∷ w) = rw (bits-append test b w, pow-suc) (omega arith)
@@ -70,7 +72,8 @@ bits-zeros test zero w h = absurd (omega arith)
 bits-zeros test (suc k) [] h = refl
 bits-zeros test (suc k) (b ∷ w) h = go (test b) refl (bits-zeros test k w (omega arith))
   where
-    go : (c : Bool) → test b ≡ c → trailingZeros k (bits test w) ≡ count test false w → trailingZeros (suc k) (bits test (b ∷ w)) ≡ count test false (b ∷ w)
+    go : (c : Bool) → test b ≡ c → trailingZeros k (bits test w) ≡ count test false w
+        → trailingZeros (suc k) (bits test (b ∷ w)) ≡ count test false (b ∷ w)
     go true e i = let q = half 1 (bits test w) (omega arith) in rw (e, count, bits, trailingZeros, q .0)
     go false e i = let q = half 0 (bits test w) (omega arith) in rw (e, count, bits, trailingZeros, q .0, q .1) (ap suc i)
 
@@ -84,7 +87,8 @@ pub digits-none : (test : ℕ → Bool) (d : List ℕ) → Digits test d 0 0 1
 unfolding bits
 digits-none test d = record { power = refl; below = omega arith; told = refl }
 
-pub digits-zeros : {test : ℕ → Bool} {d : List ℕ} {k m p : ℕ} → Digits test d k m p → k ≤ length d → k < 32 → trailingZeros 32 (m + p) ≡ count test false (take k d)
+pub digits-zeros : {test : ℕ → Bool} {d : List ℕ} {k m p : ℕ} → Digits test d k m p → k ≤ length d → k < 32
+    → trailingZeros 32 (m + p) ≡ count test false (take k d)
 digits-zeros {test} {d} {k} g l h = rw (g .told) (bits-zeros test 32 (take k d) (omega (arith, length-take-le k d l)))
 
 pub digits-small : {test : ℕ → Bool} {d : List ℕ} {k m p : ℕ} → Digits test d k m p → k ≤ 16 → p ≤ 0x10000
@@ -132,7 +136,8 @@ unfolding has
 either-near x y [] e = absurd (never e refl)
 either-near x y (b ∷ w) e = go (eqb x b || eqb y b) refl (either-near x y w)
   where
-    go : (c : Bool) → eqb x b || eqb y b ≡ c → (has x w || has y w ≡ true → count (among x y) false w < length w) → count (among x y) false (b ∷ w) < suc (length w)
+    go : (c : Bool) → eqb x b || eqb y b ≡ c → (has x w || has y w ≡ true → count (among x y) false w < length w)
+        → count (among x y) false (b ∷ w) < suc (length w)
     go true p ih = let z : count (among x y) false (b ∷ w) ≡ 0 = count-stop (among x y) false b w (among-or x y b ∙ p) in omega arith
     go false p ih =
         let p′ = or-both (eqb x b) (eqb y b) p in
@@ -147,14 +152,16 @@ count-take test b zero d = omega arith
 count-take test b (suc n) [] = omega arith
 count-take test b (suc n) (x ∷ d) = go b (test x) refl (count-take test b n d)
   where
-    go : (b c : Bool) → test x ≡ c → count test b (take n d) ≡ min n (count test b d) → count test b (x ∷ take n d) ≡ min (suc n) (count test b (x ∷ d))
+    go : (b c : Bool) → test x ≡ c → count test b (take n d) ≡ min n (count test b d)
+        → count test b (x ∷ take n d) ≡ min (suc n) (count test b (x ∷ d))
     go true true e i = rw (e, count) (omega arith)
     go true false e i = rw (e, count) (omega arith)
     go false true e i = rw (e, count) (omega arith)
     go false false e i = rw (e, count) (omega arith)
 
 module _ (x y : ℕ) (s : List ℕ) (at : ℕ) where
-  pub skipped-block : (i : ℕ) → Passed (among x y) false s at i → i + 16 ≤ length s → has x (take 16 (drop i s)) || has y (take 16 (drop i s)) ≡ false → Passed (among x y) false s at (i + 16)
+  pub skipped-block : (i : ℕ) → Passed (among x y) false s at i → i + 16 ≤ length s
+      → has x (take 16 (drop i s)) || has y (take 16 (drop i s)) ≡ false → Passed (among x y) false s at (i + 16)
   skipped-block i p h e =
       let q = or-both (has x (take 16 (drop i s))) (has y (take 16 (drop i s))) e in
       passed-more (among x y) false s at i 16 p h (neither-each x y (take 16 (drop i s)) (q .0) (q .1))
@@ -168,14 +175,21 @@ module _ (x y : ℕ) (s : List ℕ) (at : ℕ) where
       go false e = passed-end (among x y) false s at r (k .passed) (ltb-false r (length s) e)
 
 module _ (x y : ℕ) (s : List ℕ) (at to : ℕ) where
-  pub skipped-here : (i : ℕ) → Passed (among x y) false s at i → has x (take 16 (drop i s)) || has y (take 16 (drop i s)) ≡ true → Skipped x y s at to i
+  pub skipped-here : (i : ℕ) → Passed (among x y) false s at i
+      → has x (take 16 (drop i s)) || has y (take 16 (drop i s)) ≡ true → Skipped x y s at to i
   skipped-here i p e =
       record {
         passed = p;
-        near = λ h l. omega (arith, either-near x y (take 16 (drop i s)) e, length-take-le 16 (drop i s) (omega (arith, length-drop i s, l)), count-take (among x y) false 16 (drop i s));
+        near = λ h l. omega (
+          arith,
+          either-near x y (take 16 (drop i s)) e,
+          length-take-le 16 (drop i s) (omega (arith, length-drop i s, l)),
+          count-take (among x y) false 16 (drop i s),
+        );
       }
 
-  pub sought-block : (i : ℕ) → Skipped x y s at to i → i < to → i + 16 ≤ length s → Sought x y s at to (i + count (among x y) false (take 16 (drop i s)))
+  pub sought-block : (i : ℕ) → Skipped x y s at to i → i < to → i + 16 ≤ length s
+      → Sought x y s at to (i + count (among x y) false (take 16 (drop i s)))
   sought-block i k h l =
       let n = count (among x y) false (drop i s) in
       let q : n < 16 = k .near h l in

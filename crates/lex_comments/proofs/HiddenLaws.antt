@@ -92,7 +92,8 @@ char-unled {x} {c} ch n = go (confusing (scalar (x ∷ c))) refl
     go true e =
         let m = scalar (x ∷ c) in
         let w = confusing-span m e in
-        let f : encode m ≡ (0xE0 + m / 0x1000) ∷ (0x80 + m / 0x40 % 0x40) ∷ (0x80 + m % 0x40) ∷ [] = rw (le-ltb m 0x80 (omega arith), le-ltb m 0x800 (omega arith), lt-ltb m 0x10000 (omega arith)) in
+        let f : encode m ≡ (0xE0 + m / 0x1000) ∷ (0x80 + m / 0x40 % 0x40) ∷ (0x80 + m % 0x40) ∷ [] =
+        rw (le-ltb m 0x80 (omega arith), le-ltb m 0x800 (omega arith), lt-ltb m 0x10000 (omega arith)) in
         let q : x ≡ 0xE0 + m / 0x1000 = ap (λ (l : List ℕ). getD l 0 0) (sym (char-right (x ∷ c) ch .0) ∙ f) in
         absurd (n (omega arith))
 
@@ -102,7 +103,8 @@ unfoldable pub glance : List ℕ → Hidden
 glance [] = clear
 glance (x ∷ t) =
     elim (lead x) [
-      | true ↦ elim (confusing (scalar (take 3 (x ∷ t)))) [ true ↦ found 0 (scalar (take 3 (x ∷ t))) | false ↦ beyond 1 (glance t) ]
+      | true ↦ elim (confusing (scalar (take 3 (x ∷ t))))
+          [ true ↦ found 0 (scalar (take 3 (x ∷ t))) | false ↦ beyond 1 (glance t) ]
       | false ↦ beyond 1 (glance t)
     ]
 
@@ -118,7 +120,8 @@ glance-next : (x : ℕ) (t : List ℕ) → lead x ≡ false → glance (x ∷ t)
 unfolding glance
 glance-next x t e = rw (e, glance)
 
-glance-led : (x : ℕ) (t : List ℕ) → lead x ≡ true → confusing (scalar (take 3 (x ∷ t))) ≡ true → glance (x ∷ t) ≡ found 0 (scalar (take 3 (x ∷ t)))
+glance-led : (x : ℕ) (t : List ℕ) → lead x ≡ true → confusing (scalar (take 3 (x ∷ t))) ≡ true
+    → glance (x ∷ t) ≡ found 0 (scalar (take 3 (x ∷ t)))
 unfolding glance
 glance-led x t e f = rw (e, f, glance)
 
@@ -133,11 +136,15 @@ glance-plain x t f = go (lead x) refl
 glance-each : {w : List ℕ} (u : List ℕ) → Each lead false w → glance (w ++ u) ≡ beyond (length w) (glance u)
 glance-each u none = sym (beyond-none (glance u))
 glance-each u (next {x = x} {t = w} e r) =
-    glance-next x (w ++ u) e ∙ ap (beyond 1) (glance-each u r) ∙ beyond-beyond 1 (length w) (glance u) ∙ ap (λ (n : ℕ). beyond n (glance u)) (omega arith)
+    glance-next x (w ++ u) e ∙ ap (beyond 1) (glance-each u r) ∙ beyond-beyond 1 (length w) (glance u)
+    ∙ ap (λ (n : ℕ). beyond n (glance u)) (omega arith)
 
 -- a character that is not confusing is passed
-glance-past : (x : ℕ) (c u : List ℕ) → Char (x ∷ c) → glance (x ∷ (c ++ u)) ≡ beyond 1 (glance (c ++ u)) → glance (x ∷ (c ++ u)) ≡ beyond (suc (length c)) (glance u)
-glance-past x c u ch e = e ∙ ap (beyond 1) (glance-each u (char-tail-low ch)) ∙ beyond-beyond 1 (length c) (glance u) ∙ ap (λ (n : ℕ). beyond n (glance u)) (omega arith)
+glance-past : (x : ℕ) (c u : List ℕ) → Char (x ∷ c) → glance (x ∷ (c ++ u)) ≡ beyond 1 (glance (c ++ u))
+    → glance (x ∷ (c ++ u)) ≡ beyond (suc (length c)) (glance u)
+glance-past x c u ch e =
+    e ∙ ap (beyond 1) (glance-each u (char-tail-low ch)) ∙ beyond-beyond 1 (length c) (glance u)
+    ∙ ap (λ (n : ℕ). beyond n (glance u)) (omega arith)
 
 glance-char : (x : ℕ) (c u : List ℕ) → Char (x ∷ c) → (b : Bool) → confusing (scalar (x ∷ c)) ≡ b
     → glance (x ∷ (c ++ u)) ≡ elim b [ true ↦ found 0 (scalar (x ∷ c)) | false ↦ beyond (suc (length c)) (glance u) ]
@@ -161,7 +168,8 @@ glanced (suc f) h (more {c = []} ch w) = absurd (char-full ch)
 glanced (suc f) h (more {c = x ∷ c} {t = u} ch w) =
     rw (peek-char (x ∷ c) u ch) (go (confusing (scalar (x ∷ c))) refl (glanced f (omega (arith, length-append c u)) w))
   where
-    go : (b : Bool) → confusing (scalar (x ∷ c)) ≡ b → hidden f u ≡ glance u → hiddenBy (char (x ∷ c) u) (λ v. hidden f v) ≡ glance (x ∷ (c ++ u))
+    go : (b : Bool) → confusing (scalar (x ∷ c)) ≡ b → hidden f u ≡ glance u
+        → hiddenBy (char (x ∷ c) u) (λ v. hidden f v) ≡ glance (x ∷ (c ++ u))
     go true e i = rw (e, hiddenBy) (sym (glance-char x c u ch true e))
     go false e i = rw (e, hiddenBy) (ap (beyond (suc (length c))) i ∙ sym (glance-char x c u ch false e))
 
@@ -189,7 +197,8 @@ whole k (more {c = c} {t = u} ch w) h e =
 
 -- ---- a part of the text
 
-pub three-bytes : (s : List ℕ) (i : ℕ) → i + 3 ≤ length s → scalar (take 3 (drop i s)) ≡ getD s i 0 % 0x10 * 0x1000 + getD s (i + 1) 0 % 0x40 * 0x40 + getD s (i + 2) 0 % 0x40
+pub three-bytes : (s : List ℕ) (i : ℕ) → i + 3 ≤ length s
+    → scalar (take 3 (drop i s)) ≡ getD s i 0 % 0x10 * 0x1000 + getD s (i + 1) 0 % 0x40 * 0x40 + getD s (i + 2) 0 % 0x40
 unfolding scalar
 three-bytes s i h =
     let e : i + 2 ≡ suc (suc i) = omega arith in
@@ -214,18 +223,28 @@ pub record Seen (s : List ℕ) (from to i : ℕ) : Type 0 where
 
 module _ (s : List ℕ) (from to : ℕ) where
   pub seen-start : from ≤ length s → WellFormed (drop from s) → Seen s from to from
-  seen-start h w = record { on = omega arith; within = h; same = ap (hiddenIn from to) (sym (glanced (suc (length (drop from s))) (omega arith) w)) }
+  seen-start h w =
+      record { on = omega arith; within = h; same = ap (hiddenIn from to) (sym (glanced (suc (length (drop from s))) (omega arith) w)) }
 
-  seen-more : {i : ℕ} (n : ℕ) → Seen s from to i → i + n ≤ length s → glance (drop i s) ≡ beyond n (glance (drop (i + n) s)) → Seen s from to (i + n)
-  seen-more {i} n p h e = record { on = omega (arith, p .on); within = h; same = sym (in-beyond i to n (glance (drop (i + n) s))) ∙ ap (hiddenIn i to) (sym e) ∙ p .same }
+  seen-more : {i : ℕ} (n : ℕ) → Seen s from to i → i + n ≤ length s
+      → glance (drop i s) ≡ beyond n (glance (drop (i + n) s)) → Seen s from to (i + n)
+  seen-more {i} n p h e =
+      record {
+        on = omega (arith, p .on);
+        within = h;
+        same =
+            sym (in-beyond i to n (glance (drop (i + n) s))) ∙ ap (hiddenIn i to) (sym e) ∙ p .same;
+      }
 
   pub seen-plain : (i k : ℕ) → Seen s from to i → Passed lead false s i k → Seen s from to k
   seen-plain i k p q =
       let b = passed-between lead false s i k q in
-      let e : glance (drop i s) ≡ beyond (length (b .part)) (glance (drop k s)) = ap glance (b .seam) ∙ glance-each (drop k s) (b .each) in
+      let e : glance (drop i s) ≡ beyond (length (b .part)) (glance (drop k s)) =
+      ap glance (b .seam) ∙ glance-each (drop k s) (b .each) in
       rw (b .long) at (seen-more (length (b .part)) p (omega (arith, b .long, q .within)) (rw (b .long) e))
 
-  pub seen-clear : (i : ℕ) → Seen s from to i → to ≤ i → Clear ≡ hiddenIn from to (hidden (suc (length (drop from s))) (drop from s))
+  pub seen-clear : (i : ℕ) → Seen s from to i → to ≤ i
+      → Clear ≡ hiddenIn from to (hidden (suc (length (drop from s))) (drop from s))
   seen-clear i p l = sym (in-past i to (glance (drop i s)) l) ∙ p .same
 
   module _ (k : ℕ) (p : Seen s from to k) (h : k < length s) where
@@ -233,15 +252,20 @@ module _ (s : List ℕ) (from to : ℕ) where
     front = rw (add-one, drop-cons s k 0 h)
 
     pub seen-next : confusing (scalar (take 3 (drop k s))) ≡ false → Seen s from to (k + 1)
-    seen-next e = seen-more 1 p (omega arith) (ap glance front ∙ glance-plain (getD s k 0) (drop (k + 1) s) (ap (λ (l : List ℕ). confusing (scalar (take 3 l))) (sym front) ∙ e))
+    seen-next e =
+        seen-more 1 p (omega arith)
+        (ap glance front ∙ glance-plain (getD s k 0) (drop (k + 1) s)
+        (ap (λ (l : List ℕ). confusing (scalar (take 3 l))) (sym front) ∙ e))
 
     pub seen-found :
         lead (getD s k 0) ≡ true → confusing (scalar (take 3 (drop k s))) ≡ true → k < to
         → Found k (scalar (take 3 (drop k s))) ≡ hiddenIn from to (hidden (suc (length (drop from s))) (drop from s))
     seen-found l e b =
-        let f : confusing (scalar (take 3 (getD s k 0 ∷ drop (k + 1) s))) ≡ true = ap (λ (z : List ℕ). confusing (scalar (take 3 z))) (sym front) ∙ e in
+        let f : confusing (scalar (take 3 (getD s k 0 ∷ drop (k + 1) s))) ≡ true =
+        ap (λ (z : List ℕ). confusing (scalar (take 3 z))) (sym front) ∙ e in
         let g : glance (drop k s) ≡ found 0 (scalar (take 3 (drop k s))) =
-        ap glance front ∙ glance-led (getD s k 0) (drop (k + 1) s) l f ∙ ap (λ (z : List ℕ). found 0 (scalar (take 3 z))) (sym front) in
+        ap glance front ∙ glance-led (getD s k 0) (drop (k + 1) s) l f
+        ∙ ap (λ (z : List ℕ). found 0 (scalar (take 3 z))) (sym front) in
         sym (in-here k to (scalar (take 3 (drop k s))) b) ∙ ap (hiddenIn k to) (sym g) ∙ p .same
 
     -- the character that 0xE2 begins is there

@@ -30,8 +30,8 @@ fn has16(x: u8, s: &[u8], i: usize) -> bool
     hit
 }
 
-// How many of the 16 bytes from i on come before the first that is x or y. Each byte has a bit, the first byte the lowest, and the bit above
-// them all is set. No branch depends on the place, which no processor could foresee.
+// How many of the 16 bytes from i on come before the first that is x or y. Each byte has a bit, the first byte the
+// lowest, and the bit above them all is set. No branch depends on the place, which no processor could foresee.
 fn first16(x: u8, y: u8, s: &[u8], i: usize) -> usize
     requires { ⌜ i + 16 ≤ length (now s) ⌝ }
     ensures { λ r. ⌜ r ≡ count (among x y) false (take 16 (drop i (now (s .entry)))) ⌝ }
@@ -107,8 +107,8 @@ pub fn line_end(s: &[u8], at: usize) -> usize
     memchr2(b'\n', b'\r', s, at, s.len())
 }
 
-// The place past a block comment whose `(;` ends at `at`, or 0 if nothing closes it. The marks are ASCII, and in UTF-8 no other character has
-// such a byte: bytes are looked at, and no character is decoded.
+// The place past a block comment whose `(;` ends at `at`, or 0 if nothing closes it. The marks are ASCII, and in UTF-8
+// no other character has such a byte: bytes are looked at, and no character is decoded.
 pub fn block_end(s: &[u8], at: usize) -> usize
     requires { ⌜ at ≤ length (now s) ⌝ }
     ensures { λ r. ⌜ BlockEnd (now (s .entry)) at r ⌝ }

@@ -38,7 +38,8 @@ module _ {text : List ℕ} {pos : ℕ} {m : Entry} (s : Sound text pos m) where
   pub text-annotates : {σ : Settings} {r : Refusal} {p : ℕ} → m ≡ Rejected r p → calls.Annotates σ text pos (found.Refused r p)
   text-annotates {σ} {r} {p} e = go s e
     where
-      same : {q : Refusal} {n : ℕ} → calls.Annotates σ text pos (found.Refused q n) → Rejected q n ≡ Rejected r p → calls.Annotates σ text pos (found.Refused r p)
+      same : {q : Refusal} {n : ℕ} → calls.Annotates σ text pos (found.Refused q n) → Rejected q n ≡ Rejected r p
+          → calls.Annotates σ text pos (found.Refused r p)
       same {q} {n} t e =
           let a : q ≡ r = cc in
           let b : n ≡ p = cc in

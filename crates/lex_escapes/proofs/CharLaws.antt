@@ -96,7 +96,8 @@ pub letter-not : {o : Option ℕ} (r : ℕ) → o ≡ letterOf r → r ≡ 0 →
 letter-not r e f = e ∙ ap letterOf f
 
 pub no-letter :
-    (c : ℕ) → (c ≡ byte "t" → ⊥) → (c ≡ byte "n" → ⊥) → (c ≡ byte "r" → ⊥) → (c ≡ byte "\"" → ⊥) → (c ≡ byte "'" → ⊥) → (c ≡ byte "\\" → ⊥)
+    (c : ℕ) → (c ≡ byte "t" → ⊥) → (c ≡ byte "n" → ⊥) → (c ≡ byte "r" → ⊥) → (c ≡ byte "\"" → ⊥)
+    → (c ≡ byte "'" → ⊥) → (c ≡ byte "\\" → ⊥)
     → model.letterOf escapes c ≡ none
 unfolding escapes
 no-letter c t n r q a b =

@@ -31,10 +31,12 @@ use Rattle.lex_escapes.proofs.CharLaws.{alone, alone-hex, encoded, conf
 -- ---- an answer and its bounds, by the place in the text
 
 module _ (s : List ℕ) (at : ℕ) where
-  pub an-element : {m : Read} {n : ℕ} {v : List ℕ} → m ≡ element n v → 1 ≤ n → at + n ≤ length s → length v ≤ n → Element (drop at s) m n v
+  pub an-element : {m : Read} {n : ℕ} {v : List ℕ} → m ≡ element n v → 1 ≤ n → at + n ≤ length s → length v ≤ n
+      → Element (drop at s) m n v
   an-element e h k l = record { is = e; some = h; fits = omega (arith, length-drop at s); short = l }
 
-  pub a-refusal : {m : Read} {f : Fault} → m ≡ refused f → f .place ≤ f .after → at + f .after ≤ length s → Refuses (drop at s) m f
+  pub a-refusal : {m : Read} {f : Fault} → m ≡ refused f → f .place ≤ f .after → at + f .after ≤ length s
+      → Refuses (drop at s) m f
   a-refusal e h k = record { is = e; order = h; fits = omega (arith, length-drop at s) }
 
   pub says-same : (r : declared.Read) {m m′ : Read} → m ≡ m′ → Says (drop at s) m′ r → Says (drop at s) m r
@@ -145,13 +147,15 @@ module _ (s : List ℕ) (i v n : ℕ) (ch : Character s i v n) where
       let h : hexOf (scalar c) ≡ none = rw (ch .value) at e in
       rw (ch .peeked, h, firstBy, ← (ch .value), ch .long)
 
-  pub brace-yes : (σ : Settings) (j : ℕ) → j ≡ i + 1 → v ≡ byte "{" → braceBy σ (peek (drop i s)) ≡ firstBy σ (peek (drop j s))
+  pub brace-yes : (σ : Settings) (j : ℕ) → j ≡ i + 1 → v ≡ byte "{"
+      → braceBy σ (peek (drop i s)) ≡ firstBy σ (peek (drop j s))
   unfolding braceBy c
   brace-yes σ j q e =
       let o : n ≡ 1 = alone s i v n ch (omega arith) in
       rw (ch .peeked, is (byte "{") e, braceBy) (rw (o, q))
 
-  pub brace-no : (σ : Settings) → (v ≡ byte "{" → ⊥) → braceBy σ (peek (drop i s)) ≡ refused (fault (Expected (byte "{") v) 2 (2 + n))
+  pub brace-no : (σ : Settings) → (v ≡ byte "{" → ⊥)
+      → braceBy σ (peek (drop i s)) ≡ refused (fault (Expected (byte "{") v) 2 (2 + n))
   unfolding braceBy c
   brace-no σ f = rw (ch .peeked, not (byte "{") f, braceBy, ← (ch .value), ch .long)
 
@@ -167,14 +171,16 @@ module _ (s : List ℕ) (i v n : ℕ) (ch : Character s i v n) where
       let q : hexOf (scalar c) ≡ none = rw (ch .value) at e in
       rw (ch .peeked, q, secondBy, ← (ch .value), ch .long)
 
-  pub escape-unicode : (σ : Settings) (j : ℕ) → j ≡ i + 1 → v ≡ byte "u" → escapeBy σ (peek (drop i s)) ≡ braceBy σ (peek (drop j s))
+  pub escape-unicode : (σ : Settings) (j : ℕ) → j ≡ i + 1 → v ≡ byte "u"
+      → escapeBy σ (peek (drop i s)) ≡ braceBy σ (peek (drop j s))
   unfolding escapeBy c
   escape-unicode σ j q e =
       let o : n ≡ 1 = alone s i v n ch (omega arith) in
       rw (ch .peeked, is (byte "u") e, escapeBy) (rw (o, q))
 
   module _ (f : v ≡ byte "u" → ⊥) where
-    pub escape-letter : (σ : Settings) (x : ℕ) → letterOf escapes v ≡ some x → escapeBy σ (peek (drop i s)) ≡ element 2 (x ∷ [])
+    pub escape-letter : (σ : Settings) (x : ℕ) → letterOf escapes v ≡ some x
+        → escapeBy σ (peek (drop i s)) ≡ element 2 (x ∷ [])
     unfolding escapeBy c
     escape-letter σ x e =
         let q : letterOf escapes (scalar c) ≡ some x = rw (ch .value) at e in
@@ -191,7 +197,8 @@ module _ (s : List ℕ) (i v n : ℕ) (ch : Character s i v n) where
           let o : n ≡ 1 = alone-hex s i v n ch d e in
           rw (ch .peeked, not (byte "u") f, p, h, escapeBy) (rw (o, q))
 
-      pub escape-no : (σ : Settings) → hexOf v ≡ none → escapeBy σ (peek (drop i s)) ≡ refused (fault (InvalidStringEscape v) 1 (1 + n))
+      pub escape-no : (σ : Settings) → hexOf v ≡ none
+          → escapeBy σ (peek (drop i s)) ≡ refused (fault (InvalidStringEscape v) 1 (1 + n))
       unfolding escapeBy c
       escape-no σ e =
           let p : letterOf escapes (scalar c) ≡ none = rw (ch .value) at l in

@@ -59,7 +59,8 @@ module _ (s : List ℕ) (at first i v : ℕ) (u : Bool) (r : Run s at first i v 
       run-stop σ m e q k =
           let b = getD s i 0 in
           let t = drop (suc i) s in
-          counted σ m (rw (drop-cons s i 0 h) (on-stop σ u v (1 + (i - at)) (b ∷ t) (λ g. goes-split b t g (no-digit b e) x) ∙ sym q)) k
+          counted σ m (rw (drop-cons s i 0 h)
+          (on-stop σ u v (1 + (i - at)) (b ∷ t) (λ g. goes-split b t g (no-digit b e) x) ∙ sym q)) k
 
       module _ (d : ℕ) (e : hexOf (getD s i 0) ≡ some d) where
         pub run-digit : (w : ℕ) → w ≡ d → v < 0x10000000 → Run s at first (i + 1) (v * 16 + w) false
@@ -74,7 +75,8 @@ module _ (s : List ℕ) (at first i v : ℕ) (u : Bool) (r : Run s at first i v 
               goes = λ σ. rw (r .goes σ, drop-cons s i 0 h, step, add-one i, q) (on-digit σ u v (1 + (i - at)) (drop (suc i) s) y a);
             }
 
-        pub run-big : (σ : Settings) → 0x10000000 ≤ v → Counted (drop at s) (digits σ false first 1 (drop at s)) (Big (1 + (i - at)))
+        pub run-big : (σ : Settings) → 0x10000000 ≤ v
+            → Counted (drop at s) (digits σ false first 1 (drop at s)) (Big (1 + (i - at)))
         run-big σ l =
             let a : v * 16 + d < 2 ^ 32 → ⊥ = λ g. omega arith in
             record {

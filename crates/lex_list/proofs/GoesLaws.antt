@@ -33,7 +33,8 @@ pub record Goes (σ : Settings) (text : List ℕ) (start budget : ℕ) (old out 
   pub len : length out ≡ length old
   pub bytes : out ≡ records (drop start text) tokens ++ drop (recordSize * n) old
 
-pub goes-start : (σ : Settings) (text : List ℕ) (start budget : ℕ) (old : List ℕ) → Stands text start → Goes σ text start budget old old start 0
+pub goes-start : (σ : Settings) (text : List ℕ) (start budget : ℕ) (old : List ℕ) → Stands text start
+    → Goes σ text start budget old old start 0
 goes-start σ text start budget old s =
     record { tokens = []; walked = walked-start σ text s; many = refl; few = omega arith; room = omega arith; len = refl; bytes = refl }
 
@@ -71,7 +72,8 @@ module _ {σ : Settings} {text : List ℕ} {start budget : ℕ} {old out : List 
       subst (λ (x : Fault). Done (stop.Refused (Lexical (x .error)) (x .place)) (x .after)) (sym (fs .is (e .0) (e .1)))
       (goes-stops (Stops.fault (omega (arith, g .few)) (lexes (e .1))))
 
-  pub goes-full : {r : Step} {used : ℕ} → Stepped σ text at r → (n ≡ budget → ⊥) → (r .kind ≡ 0 → ⊥) → used ≡ recordSize * n
+  pub goes-full : {r : Step} {used : ℕ} → Stepped σ text at r → (n ≡ budget → ⊥) → (r .kind ≡ 0 → ⊥)
+      → used ≡ recordSize * n
       → length out - used < recordSize → Done stop.Full at
   goes-full {r} s q z u h =
       let t = token-of s z in
@@ -79,7 +81,8 @@ module _ {σ : Settings} {text : List ℕ} {start budget : ℕ} {old out : List 
 
   -- one token more, with its record
   goes-more : (new : List ℕ) (k : TokenKind) (m : ℕ) → Lexed σ (drop at text) (answer.Token k m) → (n ≡ budget → ⊥)
-      → recordSize * n + recordSize ≤ length out → Put out new (recordSize * n) (recordOf (take m (drop at text)) (record { kind = k; len = m }))
+      → recordSize * n + recordSize ≤ length out
+      → Put out new (recordSize * n) (recordOf (take m (drop at text)) (record { kind = k; len = m }))
       → Goes σ text start budget old new (at + m) (n + 1)
   goes-more new k m l q h put =
       let t : Piece = record { kind = k; len = m } in
@@ -106,11 +109,14 @@ module _ {σ : Settings} {text : List ℕ} {start budget : ℕ} {old out : List 
         bytes =
             sym (take-append-drop (to + recordSize) new)
             ∙ ap (λ (x : List ℕ). x ++ drop (to + recordSize) new)
-            (put-front out new to v put ∙ ap (λ (x : List ℕ). x ++ v) front ∙ sym (records-more text start at ts t (g .walked .place)))
-            ∙ ap (λ (x : List ℕ). records (drop start text) (ts ++ (t ∷ [])) ++ x) (rest ∙ ap (λ (i : ℕ). drop i old) (sym six));
+            (put-front out new to v put ∙ ap (λ (x : List ℕ). x ++ v) front
+            ∙ sym (records-more text start at ts t (g .walked .place)))
+            ∙ ap (λ (x : List ℕ). records (drop start text) (ts ++ (t ∷ [])) ++ x)
+            (rest ∙ ap (λ (i : ℕ). drop i old) (sym six));
       }
 
-  pub goes-stepped : {r : Step} {used : ℕ} (new : List ℕ) → Stepped σ text at r → (n ≡ budget → ⊥) → (r .kind ≡ 0 → ⊥) → used ≡ recordSize * n
+  pub goes-stepped : {r : Step} {used : ℕ} (new : List ℕ) → Stepped σ text at r → (n ≡ budget → ⊥)
+      → (r .kind ≡ 0 → ⊥) → used ≡ recordSize * n
       → recordSize ≤ length out - used → Put out new used (little 4 (r .end - at) ++ little 2 (r .kind))
       → Goes σ text start budget old new (r .end) (n + 1)
   goes-stepped {r} {used} new s q z u h p =

@@ -8,7 +8,8 @@ use Rattle.buffers.specs.Writing.{Put}
 use Rattle.buffers.proofs.PutLaws.{put-stores}
 
 pub six-stores : (d : List ℕ) (to a b c e f g : ℕ) → to + 6 ≤ length d
-    → Put d (set (set (set (set (set (set d to a) (to + 1) b) (to + 2) c) (to + 3) e) (to + 4) f) (to + 5) g) to (a ∷ b ∷ c ∷ e ∷ f ∷ g ∷ [])
+    → Put d (set (set (set (set (set (set d to a) (to + 1) b) (to + 2) c) (to + 3) e) (to + 4) f) (to + 5) g) to
+    (a ∷ b ∷ c ∷ e ∷ f ∷ g ∷ [])
 six-stores d to a b c e f g h =
     let one : to + 1 ≡ suc to = omega arith in
     let two : to + 2 ≡ suc (suc to) = omega arith in

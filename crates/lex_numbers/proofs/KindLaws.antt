@@ -97,7 +97,8 @@ prefix-within true w h = w
 prefix-within false w h = omega arith
 
 pub finite-told :
-    (sign : Sign) (text : List ℕ) (at end : ℕ) (hex : Bool) → strip (prefix true) (slice at end text) ≡ stripped text (at + 2) end hex
+    (sign : Sign) (text : List ℕ) (at end : ℕ) (hex : Bool)
+    → strip (prefix true) (slice at end text) ≡ stripped text (at + 2) end hex
     → decide sign hex (run hex true (slice (at + length (prefix hex)) end text)) ≡ finite sign (slice at end text)
 unfolding finite
 finite-told sign text at end true e = rw (e, finite)
@@ -146,7 +147,8 @@ module _ (sign : Sign) (s : List ℕ) where
       is-payload e = rw (i, a, e, unsigned)
 
       -- none of the words is, and no digit is first
-      pub is-none : (x : ℕ) {xs : List ℕ} → s ≡ x ∷ xs → strip nan-colon s ≡ none → digit false x ≡ false → Neither ≡ unsigned sign s
+      pub is-none : (x : ℕ) {xs : List ℕ} → s ≡ x ∷ xs → strip nan-colon s ≡ none → digit false x ≡ false
+          → Neither ≡ unsigned sign s
       unfolding unsigned finite run decide
       is-none x {xs} z e p = rw (i, a, e, unsigned) (rw z (rw (other-first (byte "0") _ x xs (no-zero x p), finite) (rw (p, run))))
 

@@ -45,7 +45,8 @@ module _ (text : List ℕ) (i end : ℕ) (below : i < end) (fits : end ≤ lengt
   minus-first e =
       rw (at-byte text i end below fits) (rw (ap (λ (x : ℕ). eqb x (byte "+")) e, ap (λ (x : ℕ). eqb x (byte "-")) e, sign-of))
 
-  pub no-sign-first : (getD text i 0 ≡ byte "+" → ⊥) → (getD text i 0 ≡ byte "-" → ⊥) → Unsigned ≡ sign-of (slice i end text)
+  pub no-sign-first : (getD text i 0 ≡ byte "+" → ⊥) → (getD text i 0 ≡ byte "-" → ⊥)
+      → Unsigned ≡ sign-of (slice i end text)
   unfolding sign-of
   no-sign-first p m =
       rw (at-byte text i end below fits) (rw (ne-eqb (getD text i 0) (byte "+") p, ne-eqb (getD text i 0) (byte "-") m, sign-of))

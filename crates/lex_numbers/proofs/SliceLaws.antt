@@ -7,7 +7,8 @@ use native.Mathlib.Numerals.{add-one}
 use lib.ListN.{length, getD}
 use lib.Seq.{slice, slice-empty, slice-cons}
 
-pub at-byte : (text : List ℕ) (i end : ℕ) → i < end → end ≤ length text → slice i end text ≡ getD text i 0 ∷ slice (i + 1) end text
+pub at-byte : (text : List ℕ) (i end : ℕ) → i < end → end ≤ length text
+    → slice i end text ≡ getD text i 0 ∷ slice (i + 1) end text
 at-byte text i end below fits = rw add-one (slice-cons i end text 0 below fits)
 
 pub at-end-empty : (text : List ℕ) (i end : ℕ) → i ≡ end → slice i end text ≡ []

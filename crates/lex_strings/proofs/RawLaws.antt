@@ -36,7 +36,8 @@ both false b e = differ (cc)
 -- ---- raw characters
 
 raw-elem :
-    (σ : Settings) (c : List ℕ) (x : ℕ) → scalar c ≡ x → Char c → 0x20 ≤ x → (x ≡ 0x7F → ⊥) → (x ≡ byte "\"" → ⊥) → (x ≡ byte "\\" → ⊥)
+    (σ : Settings) (c : List ℕ) (x : ℕ) → scalar c ≡ x → Char c → 0x20 ≤ x → (x ≡ 0x7F → ⊥)
+    → (x ≡ byte "\"" → ⊥) → (x ≡ byte "\\" → ⊥)
     → (0x2000 ≤ x → x < 0x3000 → ⊥) → Elem σ c c
 unfolding control
 raw-elem σ c x e ch h n f g k =
@@ -54,7 +55,8 @@ raw-one s i h l k f g =
     }
 
 pub raw-two :
-    (s : List ℕ) (i : ℕ) → i + 2 ≤ length s → 0xC2 ≤ getD s i 0 → getD s i 0 < 0xE0 → between 0x80 0xBF (getD s (i + 1) 0) ≡ true
+    (s : List ℕ) (i : ℕ) → i + 2 ≤ length s → 0xC2 ≤ getD s i 0 → getD s i 0 < 0xE0
+    → between 0x80 0xBF (getD s (i + 1) 0) ≡ true
     → Raw s i 2
 unfolding scalar table
 raw-two s i h l u e =
@@ -71,7 +73,8 @@ raw-two s i h l u e =
     }
 
 pub raw-three :
-    (s : List ℕ) (i : ℕ) → i + 3 ≤ length s → 0xE3 ≤ getD s i 0 → getD s i 0 ≤ 0xEC → between 0x80 0xBF (getD s (i + 1) 0) ≡ true
+    (s : List ℕ) (i : ℕ) → i + 3 ≤ length s → 0xE3 ≤ getD s i 0 → getD s i 0 ≤ 0xEC
+    → between 0x80 0xBF (getD s (i + 1) 0) ≡ true
     → between 0x80 0xBF (getD s (i + 2) 0) ≡ true → Raw s i 3
 unfolding scalar table
 raw-three s i h l u e f =
@@ -89,7 +92,8 @@ raw-three s i h l u e f =
     (Fits.next (w .0) (w .1) (Fits.next (x .0) (x .1) Fits.done)) in
     record {
       fits = h;
-      is = λ o σ. rw d (raw-elem σ (a ∷ b ∷ c ∷ []) _ refl ch (omega arith) (omega arith) (omega arith) (omega arith) (omega arith));
+      is = λ o σ. rw d (raw-elem σ (a ∷ b ∷ c ∷ []) _ refl ch (omega arith) (omega arith) (omega arith) (omega arith)
+          (omega arith));
     }
 
 pub raw-none : (s : List ℕ) (i : ℕ) → i < length s → Raw s i 0
@@ -125,7 +129,8 @@ raws-more s at i n r x h =
 pub hex-is : (b : ℕ) → digit true b ≡ true → hexOf b ≡ some (b % 16 + 9 * (b / 64))
 unfolding digit
 hex-is b e =
-    ⊎-elim (λ p. let w = between-true (byte "0") (byte "9") b p in is (b - 0x30) (omega arith) (omega arith) (hex-decimal b (w .0) (w .1)))
+    ⊎-elim (λ p. let w = between-true (byte "0") (byte "9") b p in
+    is (b - 0x30) (omega arith) (omega arith) (hex-decimal b (w .0) (w .1)))
     (λ e.
     ⊎-elim (λ p. let w = between-true (byte "A") (byte "F") b p in is (b - 0x37) (omega arith) (omega arith) (hex-upper b (w .0) (w .1)))
     (λ p. let w = between-true (byte "a") (byte "f") b p in is (b - 0x57) (omega arith) (omega arith) (hex-lower b (w .0) (w .1)))
@@ -136,7 +141,8 @@ hex-is b e =
 
 pub pair-is :
     (s : List ℕ) (at r h l : ℕ) → at + 3 ≤ length s → getD s at 0 ≡ byte "\\" → hexOf (getD s (at + 1) 0) ≡ some h
-    → hexOf (getD s (at + 2) 0) ≡ some l → r ≡ h * 16 + l → (σ : Settings) → Element (drop at s) (read σ (drop at s)) 3 (r ∷ [])
+    → hexOf (getD s (at + 2) 0) ≡ some l → r ≡ h * 16 + l → (σ : Settings)
+    → Element (drop at s) (read σ (drop at s)) 3 (r ∷ [])
 pair-is s at r h l k e p q o σ =
     let a = getD s (at + 1) 0 in
     let b = getD s (at + 2) 0 in
@@ -150,7 +156,8 @@ pair-is s at r h l k e p q o σ =
       add-one at,
       add-two at,
     ) in
-    rw o (an-element s at (ap (read σ) d ∙ elem-read t (Elem.pair (of-hex a h p) (of-hex b l q))) (omega arith) (omega arith) (omega arith))
+    rw o (an-element s at (ap (read σ) d ∙ elem-read t (Elem.pair (of-hex a h p) (of-hex b l q))) (omega arith) (omega arith)
+    (omega arith))
 
 -- ---- a byte among those from i to `to`
 

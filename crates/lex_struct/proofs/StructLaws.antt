@@ -13,7 +13,8 @@ use base.Logic.{ent, sep}
 use base.Fml.{Lft, Share, Fml, fat, flft, fobor, fshr-bor}
 use prog.Wp.{Heap}
 use ghost.Atoms.{Atoms, sem}
-use types.Kit.{Goal, Soaks, Seq, Step, step, Item, Given, ‵, _⊛_, given, _$_, _∵_, !, qed, move, drop, use1, split, learn, frame, done}
+use types.Kit.{Goal, Soaks, Seq, Step, step, Item, Given, ‵, _⊛_, given, _$_, _∵_, !, qed, move, drop, use1, split, learn, frame}
+use types.Kit.{done}
 use denote.RattleType.{RattleType}
 use denote.Laws.{Is, shows}
 use denote.Memory.{cellAt, partAt}
@@ -67,15 +68,18 @@ module _ {M : Type 1} (𝓤 : URA M) (H : Heap 𝓤) (A : Atoms 𝓤) (W : Given
   text-beside : ent 𝓤 (sem 𝓤 H A (Owned κ d)) (sep 𝓤 (sem 𝓤 H A (TextOf κ d)) (sem 𝓤 H A (Owned κ d)))
   text-beside =
       qed W (‵ (Owned κ d) ∷ []) ∵
-      use1 W (‵ (Owned κ d) ⊛ ‵ (Owned κ d)) (LL.copy (T.the-type (held κ)) (T′.the-copy (held κ)) 𝓤 H A W .twice d (T′.lowered d ∷ [])) $ split ! $
-      use1 W (given (T′.lowered d ∷ [] ≡ T′.lowered d ∷ []) (‵ (all-own (T.the-type (held κ) .parts) (T′.the-laws (held κ)) fields)))
+      use1 W (‵ (Owned κ d) ⊛ ‵ (Owned κ d))
+      (LL.copy (T.the-type (held κ)) (T′.the-copy (held κ)) 𝓤 H A W .twice d (T′.lowered d ∷ [])) $ split ! $
+      use1 W (given (T′.lowered d ∷ []
+      ≡ T′.lowered d ∷ []) (‵ (all-own (T.the-type (held κ) .parts) (T′.the-laws (held κ)) fields)))
       (own-open 𝓤 H A W (T.the-type (held κ)) (T′.the-laws (held κ)) fields (T′.lowered d)) $ learn ! (λ _.
       use1 W (‵ (ownAt (T.the-type (held κ) .parts) (T′.the-laws (held κ)) 0 (d .text)) ⊛
       ‵ (rest (T.the-type (held κ) .parts) (T′.the-laws (held κ)) 0 fields))
       (own-out 𝓤 H A W (T.the-type (held κ) .parts) (T′.the-laws (held κ)) 0 fields) $ split ! $
       move ! (1 ∷ []) $ drop ! $ frame ! $ done !)
 
-module _ {M : Type 1} {𝓤 : URA M} {H : Heap 𝓤} {A : Atoms 𝓤} {K : Type 0} {W : Given 𝓤 H A} {Γ : List (Item 𝓤)} {G : Goal 𝓤 H} where
+module _ {M : Type 1} {𝓤 : URA M} {H : Heap 𝓤} {A : Atoms 𝓤} {K : Type 0} {W : Given 𝓤 H A} {Γ : List (Item 𝓤)}
+    {G : Goal 𝓤 H} where
   -- what settings own, for nothing
   pub settings-owned : K → (c : Settings) → Step K W (‵ (S.the-row .own c (settings-val c ∷ [])) ∷ Γ) G Γ G
   settings-owned t c =
@@ -85,7 +89,8 @@ module _ {M : Type 1} {𝓤 : URA M} {H : Heap 𝓤} {A : Atoms 𝓤} {K : Type 
   -- a share of the lexer's cell, written out and typed, what the lexer owns, and what shuts it again
   pub lexer-looks : K → Soaks G → (κ₀ κ : Lft) {q : Share} (d : Lexer) (b o : ℕ)
       → ((s : Share) → Holds (hasTy (T′.mir (named 1)) (T′.lowered d)) × WT (T′.lowered d)
-      → Seq K W (‵ (Cell s d b o) ∷ ‵ (Owned κ d) ∷ ‵ (fobor κ₀ q (partAt (Row κ) s d b o)) ∷ ‵ (Lent κ₀ κ d b o) ∷ Γ) G)
+      → Seq K W (‵ (Cell s d b o) ∷ ‵ (Owned κ d) ∷ ‵ (fobor κ₀ q (partAt (Row κ) s d b o)) ∷ ‵
+      (Lent κ₀ κ d b o) ∷ Γ) G)
       → Seq K W (‵ (Lent κ₀ κ d b o) ∷ ‵ (flft κ₀ q) ∷ Γ) G
   lexer-looks t z κ₀ κ d b o k =
       looks t z (Row κ) (Is (Row κ)) (shows 𝓤 H A (Row κ)) (LL.vals (T.the-type (held κ)) (T′.the-laws (held κ)))
@@ -93,7 +98,8 @@ module _ {M : Type 1} {𝓤 : URA M} {H : Heap 𝓤} {A : Atoms 𝓤} {K : Type 
       (LL.copy (T.the-type (held κ)) (T′.the-copy (held κ)) 𝓤 H A W) d b o (λ s vs.
       spelt t (Row κ) (Is (Row κ)) (shows 𝓤 H A (Row κ)) (LL.vals (T.the-type (held κ)) (T′.the-laws (held κ)))
       (LL.tells (T.the-type (held κ)) (T′.the-laws (held κ))) s d vs b o $
-      move t (1 ∷ []) $ peeks t (Row κ) (Is (Row κ)) (shows 𝓤 H A (Row κ)) d (T′.lowered d ∷ []) (λ was. move t (1 ∷ 0 ∷ []) $
+      move t (1 ∷ []) $ peeks t (Row κ) (Is (Row κ)) (shows 𝓤 H A (Row κ)) d
+      (T′.lowered d ∷ []) (λ was. move t (1 ∷ 0 ∷ []) $
       use1 W (‵ (Cell s d b o)) (W .laws .raw-at s (T′.mir erased) b o (T′.lowered d)) $
       k s (LL.lawful (T.the-type (held κ)) (T′.the-laws (held κ)) 𝓤 H A W .typed d _ was .0)))
 

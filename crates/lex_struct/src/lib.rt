@@ -1,4 +1,5 @@
-// The Rust's `Lexer`, which `thallusweb` passes on: a struct of the text and the settings, with thin methods over the calls on plain parameters.
+// The Rust's `Lexer`, which `thallusweb` passes on: a struct of the text and the settings, with thin methods over the
+// calls on plain parameters.
 ghost use mathlib.Core.Path.{_≡_};
 ghost use denote.Ref.{at-last};
 ghost use Rattle.wat.specs.Calls.{Parses, Annotates};

@@ -37,7 +37,8 @@ abbrev pub foundAs : TokenKind → ℕ → ℕ → Hidden → Answer
 foundAs k at end Clear = answer.Token k (end - at)
 foundAs k at end (Found p c) = answer.Fault (fault (ConfusingUnicode c) (p - at) (end - at))
 
-commented : (k : TokenKind) (at end : ℕ) → at ≤ end → (h : Hidden) → commentBy k (end - at) h ≡ foundAs k at end (hiddenIn at end h)
+commented : (k : TokenKind) (at end : ℕ) → at ≤ end → (h : Hidden)
+    → commentBy k (end - at) h ≡ foundAs k at end (hiddenIn at end h)
 commented k at end l clear = refl
 commented k at end l (found p c) = go (ltb p (end - at)) refl
   where
@@ -58,10 +59,12 @@ module _ (k : TokenKind) (s : List ℕ) (at end : ℕ) (σ : Settings) where
   comment-on e = rw (e, comment)
 
   pub comment-off :
-      {r : Hidden} → σ .«allow_confusing» ≡ false → at ≤ end → r ≡ hiddenIn at end (hidden (suc (length (drop at s))) (drop at s))
+      {r : Hidden} → σ .«allow_confusing» ≡ false → at ≤ end
+      → r ≡ hiddenIn at end (hidden (suc (length (drop at s))) (drop at s))
       → comment σ k (end - at) (drop at s) ≡ foundAs k at end r
   unfolding comment
-  comment-off e l q = rw (e, comment) (commented k at end l (hidden (suc (length (drop at s))) (drop at s)) ∙ ap (foundAs k at end) (sym q))
+  comment-off e l q =
+      rw (e, comment) (commented k at end l (hidden (suc (length (drop at s))) (drop at s)) ∙ ap (foundAs k at end) (sym q))
 
 -- ---- comments by their marks
 
@@ -108,4 +111,5 @@ module _ (σ : Settings) (s : List ℕ) (at : ℕ) where
       pub block-closed : (end ≡ 0 → ⊥) → lexBy σ open-paren (drop at s) ≡ comment σ kind.BlockComment (end - at) (drop at s)
       block-closed z =
           let l = block-onward s at e z in
-          block ∙ ap (blockBy σ (drop at s)) (block-some s at e z) ∙ ap (λ (n : ℕ). comment σ kind.BlockComment n (drop at s)) (omega arith)
+          block ∙ ap (blockBy σ (drop at s)) (block-some s at e z)
+          ∙ ap (λ (n : ℕ). comment σ kind.BlockComment n (drop at s)) (omega arith)

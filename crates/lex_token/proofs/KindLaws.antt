@@ -49,5 +49,6 @@ module _ (s : List ℕ) (at end : ℕ) where
       pub quoted-annotation : getD s at 0 ≡ byte "@" → quotedBy (slice at end s) ≡ kind.Annotation
       quoted-annotation d = one ∙ rw d
 
-      pub quoted-other : (getD s at 0 ≡ byte "$" → ⊥) → (getD s at 0 ≡ byte "@" → ⊥) → quotedBy (slice at end s) ≡ kind.Reserved
+      pub quoted-other : (getD s at 0 ≡ byte "$" → ⊥) → (getD s at 0 ≡ byte "@" → ⊥)
+          → quotedBy (slice at end s) ≡ kind.Reserved
       quoted-other d a = one ∙ rw (ne-eqb (getD s at 0) (byte "$") d, ne-eqb (getD s at 0) (byte "@") a, quotedBy)

@@ -61,7 +61,8 @@ module _ (σ : Settings) (s : List ℕ) (at i : ℕ) (c : Scanned idchar true s 
     (q : next (byte "\"") (drop i s) ≡ false) where
   word-stops : walked σ (drop at s) ≡ stops (i - at)
   word-stops =
-      ran-walk (ran-idchars c {σ = σ} g) ∙ ap (on (i - at)) (run-stops (suc (length (drop i s))) Run.none (idchars-stop c q) (omega arith))
+      ran-walk (ran-idchars c {σ = σ} g)
+      ∙ ap (on (i - at)) (run-stops (suc (length (drop i s))) Run.none (idchars-stop c q) (omega arith))
       ∙ ap stops (add-zero (i - at))
 
   pub word-step :
@@ -102,7 +103,8 @@ rest-some σ n [] e h z = let y : 0 ≡ n = cc in omega arith
 rest-some σ zero (x ∷ t) e h z = omega arith
 rest-some σ (suc n) (x ∷ t) e h z = let y : _≡_ {A = ℕ} 0 1 = cc in omega arith
 
-module _ (σ : Settings) (s : List ℕ) (at i j : ℕ) (c : Scanned idchar true s at i) (g : WellFormed (drop at s)) (d : Quoted σ s i j) where
+module _ (σ : Settings) (s : List ℕ) (at i j : ℕ) (c : Scanned idchar true s at i) (g : WellFormed (drop at s))
+    (d : Quoted σ s i j) where
   ran : Ran σ s at j
   ran = ran-more (ran-idchars c g) (d .ran)
 

@@ -42,7 +42,8 @@ run-append (Run.char e r) q = Run.char e (run-append r q)
 run-append {v = v} (Run.string {s = s} {t = t} p r) q = rw (append-assoc s t v) (Run.string p (run-append r q))
 
 -- behind a run the walk goes on as if it began there
-run-joined : {σ : Settings} {w : List ℕ} (t : List ℕ) → Run σ w → WellFormed t → walked σ (w ++ t) ≡ on (length w) (walked σ t)
+run-joined : {σ : Settings} {w : List ℕ} (t : List ℕ) → Run σ w → WellFormed t
+    → walked σ (w ++ t) ≡ on (length w) (walked σ t)
 run-joined {σ} {w} t r g = go (walks (suc (length t)) t (omega arith) g)
   where
     fuel : ℕ
@@ -130,7 +131,8 @@ module _ {s : List ℕ} {at end : ℕ} (c : Scanned idchar true s at end) where
 
 -- ---- strings
 
-pub quote-at : (s : List ℕ) (at : ℕ) → next (byte "\"") (drop at s) ≡ true → (at < length s) × (drop at s ≡ byte "\"" ∷ drop (at + 1) s)
+pub quote-at : (s : List ℕ) (at : ℕ) → next (byte "\"") (drop at s) ≡ true
+    → (at < length s) × (drop at s ≡ byte "\"" ∷ drop (at + 1) s)
 quote-at s at n = go (drop at s) refl
   where
     go : (t : List ℕ) → drop at s ≡ t → (at < length s) × (drop at s ≡ byte "\"" ∷ drop (at + 1) s)

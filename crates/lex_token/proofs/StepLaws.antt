@@ -41,7 +41,8 @@ module _ (at : ℕ) {a : Answer} where
   step-fault e = rw e
 
 -- white space: the first byte is seen already
-pub spaces-step : (s : List ℕ) (at : ℕ) {end : ℕ} → at < length s → family (getD s at 0) ≡ spaces → Scanned space true s (at + 1) end
+pub spaces-step : (s : List ℕ) (at : ℕ) {end : ℕ} → at < length s → family (getD s at 0) ≡ spaces
+    → Scanned space true s (at + 1) end
     → record { kind = 3; end = end } ≡ stepOf at (answer.Token kind.Whitespace (count space true (drop at s)))
 unfolding count
 spaces-step s at h f c = step-token at {k = kind.Whitespace} refl refl (c .end ∙ more (families (getD s at 0)) f)
@@ -98,7 +99,8 @@ module _ {σ : Settings} {s : List ℕ} {at : ℕ} {r : Step} (q : Stepped σ s 
     where
       go :
           (a : Answer) → lex.lex σ (drop at s) ≡ a → r ≡ stepOf at a
-          → (k : TokenKind) × (n : ℕ) × (lex.lex σ (drop at s) ≡ answer.Token k n) × (r .kind ≡ kindNumber k) × (r .end ≡ at + n)
+          → (k : TokenKind) × (n : ℕ) × (lex.lex σ (drop at s) ≡ answer.Token k n) × (r .kind ≡ kindNumber k)
+          × (r .end ≡ at + n)
       go answer.End e p = absurd (z (ap (λ (x : Step). x .kind) p))
       go (answer.Token k n) e p = (k, n, e, ap (λ (x : Step). x .kind) p, ap (λ (x : Step). x .end) p)
       go (answer.Fault x) e p = absurd (z (ap (λ (x : Step). x .kind) p))

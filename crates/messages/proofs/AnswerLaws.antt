@@ -63,7 +63,8 @@ pub tellable-confusing : (n a b : ℕ) → n ≡ 21 → confusing a ≡ tellable
 unfolding between known showable tellable
 tellable-confusing n a b q = rw q
 
-pub tellable-other : (n a b : ℕ) → known n ≡ true → between 11 14 n ≡ false → (n ≡ 16 → ⊥) → (n ≡ 21 → ⊥) → true ≡ tellable n a b
+pub tellable-other : (n a b : ℕ) → known n ≡ true → between 11 14 n ≡ false → (n ≡ 16 → ⊥) → (n ≡ 21 → ⊥)
+    → true ≡ tellable n a b
 unfolding tellable showable
 tellable-other n a b k range not16 not21 = rw (k, range, ne-eqb n 16 not16, ne-eqb n 21 not21, showable)
 
@@ -93,7 +94,8 @@ unfolding fitted
 cut {buffer = buffer} {m = m} w h = rw (lt-ltb (length buffer) (length m) (omega (arith, w .ends)), fitted)
 
 pub delivered :
-    {text new buffer left m : List ℕ} {k end : ℕ} → Added text new 0 m k → k ≤ length buffer → Added buffer left 0 (take k new) end
+    {text new buffer left m : List ℕ} {k end : ℕ} → Added text new 0 m k → k ≤ length buffer
+    → Added buffer left 0 (take k new) end
     → (Written k, left) ≡ fitted m buffer
 unfolding fitted
 delivered {buffer = buffer} {left = left} {m = m} {k = k} w h p =

@@ -111,7 +111,8 @@ spelled-or-not s (NoError.wide h) = let f = s .first in omega arith
 spelled-or-not s (NoError.second-wide h) = let f = s .second in omega arith
 
 pub tells-by-one :
-    {n a b : ℕ} {buffer c c′ : List ℕ} {m m′ : Told} → TellsBy n a b buffer m c → TellsBy n a b buffer m′ c′ → (m ≡ m′) × (c ≡ c′)
+    {n a b : ℕ} {buffer c c′ : List ℕ} {m m′ : Told} → TellsBy n a b buffer m c → TellsBy n a b buffer m′ c′
+    → (m ≡ m′) × (c ≡ c′)
 tells-by-one {n} {a} {b} {buffer} (TellsBy.error s t) (TellsBy.error s′ t′) =
     let p = tells-one t (tells-spelled n a b buffer s) in
     let q = tells-one t′ (tells-spelled n a b buffer s′) in

@@ -26,7 +26,8 @@ letter-listed : (t : List (ℕ × ℕ)) (c l : ℕ) → letterOf t c ≡ some l 
 letter-listed [] c l e = differ (cc)
 letter-listed (p ∷ t) c l e = go (eqb c (p .0)) refl e (letter-listed t c l)
   where
-    go : (x : Bool) → eqb c (p .0) ≡ x → pick x (some (p .1)) (letterOf t c) ≡ some l → (letterOf t c ≡ some l → List·Memᴰ (c, l) t) → List·Memᴰ (c, l) (p ∷ t)
+    go : (x : Bool) → eqb c (p .0) ≡ x → pick x (some (p .1)) (letterOf t c) ≡ some l
+        → (letterOf t c ≡ some l → List·Memᴰ (c, l) t) → List·Memᴰ (c, l) (p ∷ t)
     go true a e ih =
         let q : c ≡ p .0 = eqb-true c (p .0) a in
         let r : p .1 ≡ l = cc in
@@ -43,8 +44,10 @@ Named c l = (letterOf named c ≡ some l) × (isScalar c ≡ true) × (0 < l)
 
 five : AllPairs Named named
 unfolding named isScalar
-five =
-    ((refl, refl, omega arith), ((refl, refl, omega arith), ((refl, refl, omega arith), ((refl, refl, omega arith), ((refl, refl, omega arith), tt)))))
+five = (
+  (refl, refl, omega arith),
+  ((refl, refl, omega arith), ((refl, refl, omega arith), ((refl, refl, omega arith), ((refl, refl, omega arith), tt)))),
+)
 
 is-named : {c l : ℕ} → List·Memᴰ (c, l) named → Named c l
 is-named m = pairs-listed Named named five m
@@ -71,7 +74,8 @@ pub shown-raw : (c : ℕ) → letterOf named c ≡ none → between 0x20 0x7E c 
 unfolding shown
 shown-raw c e h = rw (e, h, shown)
 
-pub shown-hex : (c : ℕ) → letterOf named c ≡ none → between 0x20 0x7E c ≡ false → shown c ≡ bytes "\\u{" ++ (hex c ++ bytes "}")
+pub shown-hex : (c : ℕ) → letterOf named c ≡ none → between 0x20 0x7E c ≡ false
+    → shown c ≡ bytes "\\u{" ++ (hex c ++ bytes "}")
 unfolding shown
 shown-hex c e h = rw (e, h, shown)
 
@@ -89,7 +93,8 @@ put-letter old at c b e n h =
 data Ways (c : ℕ) : List ℕ → Type 0 where
   letter : {l : ℕ} → List·Memᴰ (c, l) named → Ways c (byte "\\" ∷ l ∷ [])
   itself : between 0x20 0x7E c ≡ true → ((l : ℕ) → List·Memᴰ (c, l) named → ⊥) → Ways c (c ∷ [])
-  number : between 0x20 0x7E c ≡ false → ((l : ℕ) → List·Memᴰ (c, l) named → ⊥) → Ways c (bytes "\\u{" ++ (hex c ++ bytes "}"))
+  number : between 0x20 0x7E c ≡ false → ((l : ℕ) → List·Memᴰ (c, l) named → ⊥)
+      → Ways c (bytes "\\u{" ++ (hex c ++ bytes "}"))
 
 ways : (c : ℕ) → Ways c (shown c)
 ways c = go (letterOf named c) refl

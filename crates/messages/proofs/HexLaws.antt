@@ -44,15 +44,18 @@ hex-more n h = hexed-one (hexed n) (more-of n h (hexed (n / 16)))
 pub hexed-fits : {n : ℕ} {s : List ℕ} → Hexed n s → (k : ℕ) → n < 16 ^ suc k → length s ≤ suc k
 hexed-fits (Hexed.one h) k l = omega arith
 hexed-fits (Hexed.more p r h) zero l = absurd (omega arith)
-hexed-fits (Hexed.more {d = d} {s = s} p r h) (suc k) l = let i = hexed-fits r k (omega (arith, pow-suc 16 (suc k))) in omega (arith, length-append s (figure d ∷ []))
+hexed-fits (Hexed.more {d = d} {s = s} p r h) (suc k) l = let i = hexed-fits r k (omega (arith, pow-suc 16 (suc k))) in
+    omega (arith, length-append s (figure d ∷ []))
 
 -- so many digits hold it
 pub hex-fits : (n k : ℕ) → n < 16 ^ suc k → length (hex n) ≤ suc k
 hex-fits n k h = hexed-fits (hexed n) k h
 
 -- one digit, and one digit more, written
-pub put-digit : (old : List ℕ) (at n b : ℕ) → n < 16 → b ≡ figure n → at < length old → Added old (set old at b) at (hex n) (at + 1)
+pub put-digit : (old : List ℕ) (at n b : ℕ) → n < 16 → b ≡ figure n → at < length old
+    → Added old (set old at b) at (hex n) (at + 1)
 put-digit old at n b h e l = rw (hex-small n h, ← e) (added-one old at b l)
 
-pub put-digits : {old new : List ℕ} {at end : ℕ} (n b : ℕ) → 16 ≤ n → b ≡ figure (n % 16) → end < length new → Added old new at (hex (n / 16)) end → Added old (set new end b) at (hex n) (end + 1)
+pub put-digits : {old new : List ℕ} {at end : ℕ} (n b : ℕ) → 16 ≤ n → b ≡ figure (n % 16) → end < length new
+    → Added old new at (hex (n / 16)) end → Added old (set new end b) at (hex n) (end + 1)
 put-digits n b h e l p = rw (hex-more n h, ← e) (added-byte b p (omega (arith, added-length p)))

@@ -84,7 +84,8 @@ placed i h =
     })
 
 pub lead-written :
-    {d e : List ℕ} {from to : ℕ} (number : ℕ) → Lead (number - 10) from to → Put d e 0 (take (to - from) (drop from (joined leads)))
+    {d e : List ℕ} {from to : ℕ} (number : ℕ) → Lead (number - 10) from to
+    → Put d e 0 (take (to - from) (drop from (joined leads)))
     → Added d e 0 (lead number) (to - from)
 unfolding lead
 lead-written {d} {e} {from} {to} number l p =

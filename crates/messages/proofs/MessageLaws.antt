@@ -7,7 +7,9 @@ use mathlib.Core.List.{List, [], _∷_, _++_}
 use native.Mathlib.Omega.{arith}
 use lib.ListN.{length, length-append}
 use Rattle.wat.specs.declared.LexError.{LexError}
-use Rattle.wat.specs.declared.LexError.the-variants.{DanglingBlockComment, Unexpected, InvalidStringElement, InvalidStringEscape, InvalidHexDigit, Expected, UnexpectedEof, NumberTooBig, InvalidUnicodeValue, LoneUnderscore, ConfusingUnicode, InvalidUtf8Id, EmptyId, EmptyAnnotation}
+use Rattle.wat.specs.declared.LexError.the-variants.{DanglingBlockComment, Unexpected, InvalidStringElement, InvalidStringEscape}
+use Rattle.wat.specs.declared.LexError.the-variants.{InvalidHexDigit, Expected, UnexpectedEof, NumberTooBig, InvalidUnicodeValue}
+use Rattle.wat.specs.declared.LexError.the-variants.{LoneUnderscore, ConfusingUnicode, InvalidUtf8Id, EmptyId, EmptyAnnotation}
 use Rattle.wat.specs.{Bytes.bytes, Bytes.between, Bytes.has, Chars.isScalar, Chars.confusing, Cases.errorNumber}
 use Rattle.messages.specs.Messages.{named, Shown, Displays}
 use Rattle.wat.proofs.Basics.{never, has-every}
@@ -65,7 +67,8 @@ displays EmptyAnnotation a b q t = Displays.empty-annotation
 
 -- and no other has one
 pub has-message :
-    {e : LexError} {m : List ℕ} (a b : ℕ) → Displays e m → Carries (errorNumber e .1) a b → tellable (errorNumber e .0) a b ≡ true
+    {e : LexError} {m : List ℕ} (a b : ℕ) → Displays e m → Carries (errorNumber e .1) a b
+    → tellable (errorNumber e .0) a b ≡ true
 unfolding between known showable tellable
 has-message a b Displays.dangling q = refl
 has-message a b (Displays.unexpected x) q = rw q at (shown-scalar x)
@@ -104,13 +107,24 @@ longest w (Displays.element {s = s} x) = omega (arith, quoted-length (bytes "inv
 longest w (Displays.escape {s = s} x) = omega (arith, quoted-length (bytes "invalid string escape '") s, shown-length x)
 longest w (Displays.digit {s = s} x) = omega (arith, quoted-length (bytes "invalid hex digit '") s, shown-length x)
 longest w (Displays.expected {s = s} {t = t} x y) =
-    omega (arith, length-append s (bytes "' but found '" ++ (t ++ bytes "'")), quoted-length (bytes "' but found '") t, shown-length x, shown-length y)
+    omega (
+      arith,
+      length-append s (bytes "' but found '" ++ (t ++ bytes "'")),
+      quoted-length (bytes "' but found '") t,
+      shown-length x,
+      shown-length y,
+    )
 longest w Displays.end = omega arith
 longest w Displays.big = omega arith
 longest w (Displays.value {n = n} x) = omega (arith, hexed-fits x 7 (w n refl))
 longest w Displays.underscore = omega arith
 longest w (Displays.hidden {c = c} {s = s} h x) =
-    omega (arith, quoted-length (bytes "likely-confusing unicode character found '") s, ap length (shown-is x), shown-fits c 3 (omega (arith, confusing-bounds c h)))
+    omega (
+      arith,
+      quoted-length (bytes "likely-confusing unicode character found '") s,
+      ap length (shown-is x),
+      shown-fits c 3 (omega (arith, confusing-bounds c h)),
+    )
 longest w Displays.id = omega arith
 longest w Displays.empty-id = omega arith
 longest w Displays.empty-annotation = omega arith

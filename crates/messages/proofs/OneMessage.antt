@@ -65,10 +65,12 @@ displays-one Displays.empty-id Displays.empty-id = refl
 displays-one Displays.empty-annotation Displays.empty-annotation = refl
 
 -- the same error's message, by what the call was asked for
-asked-one : {r : Refusal} {e e′ : LexError} {m m′ : List ℕ} → r ≡ Lexical e → r ≡ Lexical e′ → Displays e m → Displays e′ m′ → m ≡ m′
+asked-one : {r : Refusal} {e e′ : LexError} {m m′ : List ℕ} → r ≡ Lexical e → r ≡ Lexical e′ → Displays e m
+    → Displays e′ m′ → m ≡ m′
 asked-one {e = e} {e′ = e′} p q d d′ = let z : e ≡ e′ = cc in displays-one (rw z at d) d′
 
-pub tells-one : {r : Refusal} {buffer b b′ : List ℕ} {a a′ : Told} → Tells r buffer a b → Tells r buffer a′ b′ → (a ≡ a′) × (b ≡ b′)
+pub tells-one : {r : Refusal} {buffer b b′ : List ℕ} {a a′ : Told} → Tells r buffer a b → Tells r buffer a′ b′
+    → (a ≡ a′) × (b ≡ b′)
 tells-one (Tells.none n) (Tells.none n′) = (refl, refl)
 tells-one (Tells.none n) (Tells.too-short {e = e} {m = m} p d h) = absurd (n e m p d)
 tells-one (Tells.none n) (Tells.told {e = e} {m = m} p d h) = absurd (n e m p d)

@@ -42,7 +42,8 @@ fits {e} {m} buffer d = go (ltb (length buffer) (length m)) refl
     go false p = rw (p, fitted) (Tells.told refl d (ltb-false (length buffer) (length m) p))
 
 -- the same answer, where `Tells` asks its equal
-pub answered : (r : Refusal) (buffer : List ℕ) {x y : Told × List ℕ} → x ≡ y → Tells r buffer (y .0) (y .1) → Tells r buffer (x .0) (x .1)
+pub answered : (r : Refusal) (buffer : List ℕ) {x y : Told × List ℕ} → x ≡ y → Tells r buffer (y .0) (y .1)
+    → Tells r buffer (x .0) (x .1)
 answered r buffer q t = subst (λ (z : Told × List ℕ). Tells r buffer (z .0) (z .1)) (sym q) t
 
 pub tells :
@@ -50,7 +51,8 @@ pub tells :
     → Tells (refusal.Lexical e) buffer (answer (numberOf e) a b buffer .0) (answer (numberOf e) a b buffer .1)
 tells e a b buffer q = go (tellable (numberOf e) a b) refl
   where
-    none : tellable (numberOf e) a b ≡ false → (f : LexError) (m : List ℕ) → refusal.Lexical e ≡ refusal.Lexical f → Displays f m → ⊥
+    none : tellable (numberOf e) a b ≡ false → (f : LexError) (m : List ℕ) → refusal.Lexical e ≡ refusal.Lexical f
+        → Displays f m → ⊥
     none t f m p d = let z : f ≡ e = cc in never (has-message a b (rw z at d) q) t
 
     go :
@@ -97,11 +99,14 @@ unfolding between known showable tellable rest message answer
 hidden-values a b c d buffer = refl
 
 -- a and b are the values of a code, where they are of 32 bits
-module _ {c : Code} {a b : ℕ} (p : c .first < 2 ^ 32 → a ≡ c .first) (q : c .second < 2 ^ 32 → b ≡ c .second) (buffer : List ℕ) where
-  shows : (e : LexError) → Coded (errorNumber e) c → answer (numberOf e) a b buffer ≡ answer (numberOf e) (firstOf e) (secondOf e) buffer
+module _ {c : Code} {a b : ℕ} (p : c .first < 2 ^ 32 → a ≡ c .first) (q : c .second < 2 ^ 32 → b ≡ c .second)
+    (buffer : List ℕ) where
+  shows : (e : LexError) → Coded (errorNumber e) c
+      → answer (numberOf e) a b buffer ≡ answer (numberOf e) (firstOf e) (secondOf e) buffer
   shows e d = go (eqb (numberOf e) 22) refl
     where
-      go : (t : Bool) → eqb (numberOf e) 22 ≡ t → answer (numberOf e) a b buffer ≡ answer (numberOf e) (firstOf e) (secondOf e) buffer
+      go : (t : Bool) → eqb (numberOf e) 22 ≡ t
+          → answer (numberOf e) a b buffer ≡ answer (numberOf e) (firstOf e) (secondOf e) buffer
       go true t =
           let z = eqb-true (numberOf e) 22 t in
           ap (λ (n : ℕ). answer n a b buffer) z
@@ -128,7 +133,8 @@ module _ {c : Code} {a b : ℕ} (p : c .first < 2 ^ 32 → a ≡ c .first) (q : 
       (Tells.none (λ e t x y. no-number k e (sym (ap (λ (s : Refusal). number s .0) x))))
 
   pub tells-refusal :
-      {left : List ℕ} {m : Told} (r : Refusal) → Coded (number r) c → (m, left) ≡ answer (c .number) a b buffer → Tells r buffer m left
+      {left : List ℕ} {m : Told} (r : Refusal) → Coded (number r) c → (m, left) ≡ answer (c .number) a b buffer
+      → Tells r buffer m left
   unfolding between known
   tells-refusal refusal.TooLong d z = other refusal.TooLong refl d z
   tells-refusal (refusal.NotUtf8 v e) d z = other (refusal.NotUtf8 v e) refl d z

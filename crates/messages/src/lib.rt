@@ -191,7 +191,8 @@ fn quoted(out: &mut [u8], at: usize, c: u32) -> usize
 // Two characters: the one that had to come, and the one that came.
 fn expected(out: &mut [u8], at: usize, wanted: u32, found: u32) -> usize
     requires { ⌜ at + longestRest ≤ length (now out) ⌝ }
-    ensures { λ r. ⌜ Added (now (out .entry)) (now (out .exit)) at (shown wanted ++ (bytes "' but found '" ++ (shown found ++ bytes "'"))) r ⌝ }
+    ensures { λ r. ⌜ Added (now (out .entry)) (now (out .exit)) at
+        (shown wanted ++ (bytes "' but found '" ++ (shown found ++ bytes "'"))) r ⌝ }
 {
     let close = escape_char(out, at, wanted);
     let open = buffers::append(out, close, b"' but found '");
@@ -204,7 +205,10 @@ fn lead(out: &mut [u8], number: u64) -> usize
     ensures { λ r. ⌜ Added (now (out .entry)) (now (out .exit)) 0 (lead-of number) r × (r ≤ longestLead) ⌝ }
 {
     let all =
-        b"unterminated block commentunexpected character 'invalid character in string 'invalid string escape 'invalid hex digit 'expected 'unexpected end-of-filenumber is too big to parseinvalid unicode scalar value 0xbare underscore in numeric literallikely-confusing unicode character found 'malformed UTF-8 encoding of string-based idempty identifierempty annotation id";
+        b"unterminated block commentunexpected character 'invalid character in string 'invalid string escape 'invalid hex \
+          digit 'expected 'unexpected end-of-filenumber is too big to parseinvalid unicode scalar value 0xbare underscore in \
+          numeric literallikely-confusing unicode character found 'malformed UTF-8 encoding of string-based idempty \
+          identifierempty annotation id";
     let places = [
         0usize,
         26,

@@ -22,7 +22,8 @@ Held p = (p .line ≤ last) × (p .column ≤ last)
 -- ---- columns over one byte more, in front
 
 on-line : {c x n : ℕ} {w : List ℕ} → lineFeed x ≡ false → Column (c + 1) w n → Column c (x ∷ w) n
-on-line {c} e (Column.goes-on {w = w} r) = let z : c + 1 + length w ≡ c + suc (length w) = omega arith in rw z (Column.goes-on (Each.next e r))
+on-line {c} e (Column.goes-on {w = w} r) = let z : c + 1 + length w ≡ c + suc (length w) = omega arith in
+    rw z (Column.goes-on (Each.next e r))
 on-line {x = x} e (Column.restarts v r) = Column.restarts (x ∷ v) r
 
 new-line : {c x n : ℕ} {w : List ℕ} → x ≡ 0x0A → Column 1 w n → Column c (x ∷ w) n
@@ -31,7 +32,8 @@ new-line {x = x} e (Column.restarts v r) = Column.restarts (x ∷ v) r
 
 off-line : {c x n : ℕ} {s w : List ℕ} → lineFeed x ≡ false → s ≡ x ∷ w → Column c s n → Column (c + 1) w n
 off-line e q (Column.goes-on Each.none) = differ (cc)
-off-line {c} {w = w} e q (Column.goes-on (Each.next {t = t} f r)) = let z : t ≡ w = cc in let k : c + suc (length t) ≡ c + 1 + length w = omega (arith, ap length z) in rw k (Column.goes-on (rw z at r))
+off-line {c} {w = w} e q (Column.goes-on (Each.next {t = t} f r)) = let z : t ≡ w = cc in
+    let k : c + suc (length t) ≡ c + 1 + length w = omega (arith, ap length z) in rw k (Column.goes-on (rw z at r))
 off-line {x = x} e q (Column.restarts [] r) = let z : x ≡ 0x0A = cc in absurd (never refl (rw z at e))
 off-line {w = w} e q (Column.restarts (y ∷ v) {w = t} r) = let z : w ≡ v ++ (0x0A ∷ t) = cc in rw z (Column.restarts v r)
 
@@ -77,10 +79,18 @@ steps p x h = go (lineFeed x) refl
         (Steps.carried {q = record { line = p .line + 1; column = 1 }}
         record {
           held = (omega (arith, ltb-true (p .line) last k), omega arith);
-          joins = λ u r l. record { line = omega (arith, l .line, feeds-more x u e); column = new-line (eqb-true x 0x0A e) (l .column); holds = l .holds };
-          parts = λ u r l. record { line = omega (arith, l .line, feeds-more x u e); column = off-feed e refl (l .column); holds = l .holds };
+          joins =
+              λ u r l. record {
+                line = omega (arith, l .line, feeds-more x u e);
+                column =
+                    new-line (eqb-true x 0x0A e) (l .column);
+                holds = l .holds;
+              };
+          parts =
+              λ u r l. record { line = omega (arith, l .line, feeds-more x u e); column = off-feed e refl (l .column); holds = l .holds };
         })
-    feed false e k = rw (e, k, step) (Steps.full (λ r l. omega (arith, l .line, l .holds .0, feeds-more x [] e, ltb-false (p .line) last k)))
+    feed false e k =
+        rw (e, k, step) (Steps.full (λ r l. omega (arith, l .line, l .holds .0, feeds-more x [] e, ltb-false (p .line) last k)))
 
     byte : (b : Bool) → lineFeed x ≡ false → ltb (p .column) last ≡ b → Steps p x (step p x)
     byte true e k =
@@ -89,9 +99,12 @@ steps p x h = go (lineFeed x) refl
         record {
           held = (omega arith, omega (arith, ltb-true (p .column) last k));
           joins = λ u r l. record { line = omega (arith, l .line, feeds-same x u e); column = on-line e (l .column); holds = l .holds };
-          parts = λ u r l. record { line = omega (arith, l .line, feeds-same x u e); column = off-line e refl (l .column); holds = l .holds };
+          parts =
+              λ u r l. record { line = omega (arith, l .line, feeds-same x u e); column = off-line e refl (l .column); holds = l .holds };
         })
-    byte false e k = rw (e, k, step) (Steps.full (λ r l. omega (arith, stays (off-line e refl (l .column)) refl, l .holds .1, ltb-false (p .column) last k)))
+    byte false e k =
+        rw (e, k, step) (Steps.full (λ r l. omega
+        (arith, stays (off-line e refl (l .column)) refl, l .holds .1, ltb-false (p .column) last k)))
 
     go : (b : Bool) → lineFeed x ≡ b → Steps p x (step p x)
     go true e = feed (ltb (p .line) last) e refl
@@ -109,7 +122,8 @@ unfolding lineFeeds
 leads-none p h = record { line = omega arith; column = here; holds = h }
   where
     here : Column (p .column) [] (p .column)
-    here = let z : p .column + 0 ≡ p .column = omega arith in let k : Column (p .column) [] (p .column + 0) = Column.goes-on Each.none in rw z at k
+    here = let z : p .column + 0 ≡ p .column = omega arith in let k : Column (p .column) [] (p .column + 0) =
+        Column.goes-on Each.none in rw z at k
 
 reach : (w : List ℕ) (p : Place) → Held p → Reach p w (after p w)
 unfolding after
@@ -120,7 +134,8 @@ reach [] p h = Reach.there start (leads-none p h)
     start (y ∷ u) v e = differ (cc)
 reach (x ∷ t) p h = go (step p x) refl (steps p x h) (reach t)
   where
-    start : {q : Place} → Carries p x q → ((u v : List ℕ) → u ++ v ≡ t → (m : Place) × Leads q u m) → (u v : List ℕ) → u ++ v ≡ x ∷ t → (m : Place) × Leads p u m
+    start : {q : Place} → Carries p x q → ((u v : List ℕ) → u ++ v ≡ t → (m : Place) × Leads q u m) → (u v : List ℕ)
+        → u ++ v ≡ x ∷ t → (m : Place) × Leads p u m
     start k s [] v e = (p, leads-none p h)
     start k s (y ∷ u) v e = let z : y ≡ x = cc in let m = s u v (cc) in rw z (m .0, k .joins u (m .0) (m .1))
 
@@ -128,7 +143,8 @@ reach (x ∷ t) p h = go (step p x) refl (steps p x h) (reach t)
     more k (Reach.there {q = r} s l) = Reach.there (start k s) (k .joins t r l)
     more k (Reach.nowhere u v e n) = Reach.nowhere (x ∷ u) v (cc) (λ m l. n m (k .parts u m l))
 
-    go : (o : Option Place) → step p x ≡ o → Steps p x o → ((q : Place) → Held q → Reach q t (after q t)) → Reach p (x ∷ t) (after p (x ∷ t))
+    go : (o : Option Place) → step p x ≡ o → Steps p x o → ((q : Place) → Held q → Reach q t (after q t))
+        → Reach p (x ∷ t) (after p (x ∷ t))
     go _ e (Steps.carried {q = q} k) ih = rw (e, after) (more k (ih q (k .held)))
     go _ e (Steps.full n) ih = rw (e, after) (Reach.nowhere (x ∷ []) t refl n)
 
@@ -147,12 +163,15 @@ unfolding after
 after-append [] p q v e = let z : p ≡ q = cc in rw z
 after-append (x ∷ u) p q v e = go (step p x) refl (after-append u)
   where
-    go : (o : Option Place) → step p x ≡ o → ((m q : Place) (v : List ℕ) → after m u ≡ some q → after m (u ++ v) ≡ after q v) → after p (x ∷ (u ++ v)) ≡ after q v
+    go : (o : Option Place) → step p x ≡ o
+        → ((m q : Place) (v : List ℕ) → after m u ≡ some q → after m (u ++ v) ≡ after q v)
+        → after p (x ∷ (u ++ v)) ≡ after q v
     go (some m) k ih = rw (k, after) (ih m q v (rw (k, after) at e))
     go none k ih = let z : none ≡ some q = rw (k, after) at e in differ (cc)
 
 -- a move that is not refused starts and ends where a counter holds it, and is the model's
-made : {p q : Place} {w : List ℕ} {m : Moved} → m ≡ record { ok = true; place = q } → Moves p w m → Held p × Held q × (after p w ≡ some q)
+made : {p q : Place} {w : List ℕ} {m : Moved} → m ≡ record { ok = true; place = q } → Moves p w m
+    → Held p × Held q × (after p w ≡ some q)
 unfolding moved lineFeeds
 made {p} {q} {w} e (Moves.moves s l) =
     let k = s [] w refl in
@@ -170,7 +189,8 @@ abbrev pub since : Place → Moved → Moved
 since p m = record { ok = m .ok; place = elim (m .ok) [ true ↦ m .place | false ↦ p ] }
 
 -- a move over some bytes and then over others is a move over both; a refusal of the second leaves the counter before the first
-pub moves-compose : {p q : Place} {u v : List ℕ} {m : Moved} → Moves p u (record { ok = true; place = q }) → Moves q v m → Moves p (u ++ v) (since p m)
+pub moves-compose : {p q : Place} {u v : List ℕ} {m : Moved} → Moves p u (record { ok = true; place = q }) → Moves q v m
+    → Moves p (u ++ v) (since p m)
 unfolding moved
 moves-compose {p} {q} {u} {v} {m} a b =
     let k = made refl a in

@@ -16,7 +16,8 @@ unbroken (y ∷ v) w Each.none e = differ (cc)
 unbroken (y ∷ v) w (Each.next p r) e = unbroken v w r (cc)
 
 -- what follows the last line feed
-last-line : (v v′ : List ℕ) {w w′ : List ℕ} → Each lineFeed false w → Each lineFeed false w′ → v ++ (0x0A ∷ w) ≡ v′ ++ (0x0A ∷ w′) → w ≡ w′
+last-line : (v v′ : List ℕ) {w w′ : List ℕ} → Each lineFeed false w → Each lineFeed false w′
+    → v ++ (0x0A ∷ w) ≡ v′ ++ (0x0A ∷ w′) → w ≡ w′
 last-line [] [] a b e = cc
 last-line [] (y ∷ v′) {w′ = w′} a b e = absurd (unbroken v′ w′ a (cc))
 last-line (x ∷ v) [] {w = w} a b e = absurd (unbroken v w b (cc))

@@ -25,21 +25,27 @@ pub walked-none : (p : Place) (w : List ℕ) → Held p → Walked p w (p .line)
 walked-none p w h = record { from = h; within = omega arith; held = h; same = refl }
 
 module _ {p : Place} {w : List ℕ} {line column i : ℕ} (k : Walked p w line column i) where
-  on : (l c : ℕ) → i < length w → (l ≤ last) × (c ≤ last) → step (record { line = line; column = column }) (getD w i 0) ≡ some (record { line = l; column = c }) → Walked p w l c (i + 1)
+  on : (l c : ℕ) → i < length w → (l ≤ last) × (c ≤ last)
+      → step (record { line = line; column = column }) (getD w i 0) ≡ some (record { line = l; column = c }) → Walked p w l c (i + 1)
   unfolding after
   on l c h b e = record { from = k .from; within = omega arith; held = b; same = k .same ∙ rw (add-one, drop-cons w i 0, e, after) }
 
-  off : i < length w → step (record { line = line; column = column }) (getD w i 0) ≡ none → Moves p w (record { ok = false; place = p })
+  off : i < length w → step (record { line = line; column = column }) (getD w i 0) ≡ none
+      → Moves p w (record { ok = false; place = p })
   unfolding after moved
   off h e = let z : after p w ≡ none = k .same ∙ rw (drop-cons w i 0, e, after) in rw z at (decides p w (k .from))
 
   pub walked-feed : i < length w → getD w i 0 ≡ 0x0A → (line ≡ last → ⊥) → Walked p w (line + 1) 1 (i + 1)
   unfolding step
-  walked-feed h x n = on (line + 1) 1 h (omega (arith, k .held), omega arith) (rw (eq-eqb (getD w i 0) 0x0A x, lt-ltb line last (omega (arith, k .held)), step))
+  walked-feed h x n =
+      on (line + 1) 1 h (omega (arith, k .held), omega arith)
+      (rw (eq-eqb (getD w i 0) 0x0A x, lt-ltb line last (omega (arith, k .held)), step))
 
   pub walked-byte : i < length w → (getD w i 0 ≡ 0x0A → ⊥) → (column ≡ last → ⊥) → Walked p w line (column + 1) (i + 1)
   unfolding step
-  walked-byte h x n = on line (column + 1) h (k .held .0, omega (arith, k .held)) (rw (ne-eqb (getD w i 0) 0x0A x, lt-ltb column last (omega (arith, k .held)), step))
+  walked-byte h x n =
+      on line (column + 1) h (k .held .0, omega (arith, k .held))
+      (rw (ne-eqb (getD w i 0) 0x0A x, lt-ltb column last (omega (arith, k .held)), step))
 
   pub feed-full : i < length w → getD w i 0 ≡ 0x0A → line ≡ last → Moves p w (record { ok = false; place = p })
   unfolding step
@@ -51,4 +57,5 @@ module _ {p : Place} {w : List ℕ} {line column i : ℕ} (k : Walked p w line c
 
   pub walked-all : length w ≤ i → Moves p w (record { ok = true; place = record { line = line; column = column } })
   unfolding after moved
-  walked-all h = let z : after p w ≡ some (record { line = line; column = column }) = k .same ∙ rw (drop-of-length-le w h) in rw z at (decides p w (k .from))
+  walked-all h = let z : after p w ≡ some (record { line = line; column = column }) = k .same ∙ rw (drop-of-length-le w h) in
+      rw z at (decides p w (k .from))

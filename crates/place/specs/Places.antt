@@ -31,5 +31,7 @@ pub record Leads (from : Place) (w : List ℕ) (to : Place) : Type 0 where
 
 -- a move over the bytes; or 35, where line or column would be past the limit after any of them, and the counter stays
 pub data Moves (from : Place) (w : List ℕ) : Moved → Type 0 where
-  moves : {to : Place} → ((u v : List ℕ) → u ++ v ≡ w → (p : Place) × Leads from u p) → Leads from w to → Moves from w (record { ok = true; place = to })
-  full : (u v : List ℕ) → u ++ v ≡ w → ((p : Place) → Leads from u p → ⊥) → Moves from w (record { ok = false; place = from })
+  moves : {to : Place} → ((u v : List ℕ) → u ++ v ≡ w → (p : Place) × Leads from u p) → Leads from w to
+      → Moves from w (record { ok = true; place = to })
+  full : (u v : List ℕ) → u ++ v ≡ w → ((p : Place) → Leads from u p → ⊥)
+      → Moves from w (record { ok = false; place = from })

@@ -17,13 +17,15 @@ use Rattle.read_token.specs.Here.{Here}
 use Rattle.read_call.specs.ByNumber.{readers, nth, ReadBy}
 
 -- `src` leaves every buffer
-pub src-any : {text b : List ℕ} {token : Token} {a : Reading} (buffer : List ℕ) → Read Reader.src text token [] a b → Read Reader.src text token buffer a buffer
+pub src-any : {text b : List ℕ} {token : Token} {a : Reading} (buffer : List ℕ) → Read Reader.src text token [] a b
+    → Read Reader.src text token buffer a buffer
 src-any buffer (Read.missing x) = Read.missing x
 src-any buffer (Read.other-kind t n) = absurd (n Takes.any)
 src-any buffer (Read.reads t Reads.itself (Handed.too-short h)) = absurd (omega arith)
 src-any buffer (Read.reads t Reads.itself (Handed.fits h)) = Read.reads t Reads.itself (Handed.fits (omega arith))
 
-pub by-number : {n : ℕ} {text buffer b : List ℕ} {token : Token} {reader : Reader} {a : Reading} (m : ℕ) → n ≡ m → nth readers m ≡ some reader → Read reader text token buffer a b → ReadBy n text token buffer a b
+pub by-number : {n : ℕ} {text buffer b : List ℕ} {token : Token} {reader : Reader} {a : Reading} (m : ℕ) → n ≡ m
+    → nth readers m ≡ some reader → Read reader text token buffer a b → ReadBy n text token buffer a b
 by-number m e q r = ReadBy.by (ap (nth readers) e ∙ q) r
 
 -- n is none of the first m numbers

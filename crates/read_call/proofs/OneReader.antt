@@ -25,7 +25,8 @@ same-reader a b = cc
 some-none : {o : Option Reader} {r : Reader} → o ≡ some r → o ≡ none → ⊥
 some-none {r = r} a b = let z : some r ≡ none = sym a ∙ b in differ (cc)
 
-pub read-by-one : {n : ℕ} {text buffer b c : List ℕ} {t : Token} {x y : Reading} → ReadBy n text t buffer x b → ReadBy n text t buffer y c → (x ≡ y) × (b ≡ c)
+pub read-by-one : {n : ℕ} {text buffer b c : List ℕ} {t : Token} {x y : Reading} → ReadBy n text t buffer x b
+    → ReadBy n text t buffer y c → (x ≡ y) × (b ≡ c)
 read-by-one {text = text} {buffer = buffer} {b = b} {t = t} {x = x} (ReadBy.by {reader = r} e p) (ReadBy.by {reader = q} f s) =
     read-one (subst (λ (z : Reader). Read z text t buffer x b) (same-reader e f) p) s
 read-by-one (ReadBy.by e p) (ReadBy.missing f s) = absurd (some-none e f)

@@ -25,7 +25,8 @@ nth (r ∷ rs) (suc n) = nth rs n
 
 -- the first call of the reader with the number; a number that no reader has is refused by 31, after 1 to 4 and 30
 pub data ReadBy (n : ℕ) (text : List ℕ) (token : Token) (buffer : List ℕ) : Reading → List ℕ → Type 0 where
-  by : {reader : Reader} {a : Reading} {b : List ℕ} → nth readers n ≡ some reader → Read reader text token buffer a b → ReadBy n text token buffer a b
+  by : {reader : Reader} {a : Reading} {b : List ℕ} → nth readers n ≡ some reader → Read reader text token buffer a b
+      → ReadBy n text token buffer a b
   missing : {r : Refusal} {p : ℕ} → nth readers n ≡ none → Missing text token r p
       → ReadBy n text token buffer (reading.Refused r p) buffer
   nobody : nth readers n ≡ none → There text token

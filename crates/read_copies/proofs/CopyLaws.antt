@@ -49,9 +49,11 @@ written-none {d = d} {at = at} h = record { value = []; put = put-none d at h; r
 
 module _ {text d e : List ℕ} {from to i at n : ℕ} (x : Written text from to i at n d e) where
   pub written-off : (j : ℕ) → bare (slice i to text) ≡ bare (slice j to text) → Written text from to j at n d e
-  written-off j q = record { value = x .value; put = x .put; rest = ap (λ (z : List ℕ). x .value ++ z) (sym q) ∙ x .rest; long = x .long }
+  written-off j q =
+      record { value = x .value; put = x .put; rest = ap (λ (z : List ℕ). x .value ++ z) (sym q) ∙ x .rest; long = x .long }
 
-  module _ {b : ℕ} (j : ℕ) (q : bare (slice i to text) ≡ b ∷ bare (slice j to text)) (room : at + length (bare (slice from to text)) ≤ length d) where
+  module _ {b : ℕ} (j : ℕ) (q : bare (slice i to text) ≡ b ∷ bare (slice j to text))
+      (room : at + length (bare (slice from to text)) ≤ length d) where
     below : n < length d
     below = omega (arith, x .long, ap length q, ap length (x .rest), length-append (x .value) (bare (slice i to text)))
 
@@ -79,7 +81,8 @@ unfolding bare has
 bare-plain [] h = refl
 bare-plain (x ∷ t) h = go (eqb x (byte "_")) refl h (bare-plain t)
   where
-    go : (b : Bool) → eqb x (byte "_") ≡ b → has (byte "_") (x ∷ t) ≡ false → (has (byte "_") t ≡ false → bare t ≡ t) → bare (x ∷ t) ≡ x ∷ t
+    go : (b : Bool) → eqb x (byte "_") ≡ b → has (byte "_") (x ∷ t) ≡ false
+        → (has (byte "_") t ≡ false → bare t ≡ t) → bare (x ∷ t) ≡ x ∷ t
     go true e h k = let z : true ≡ false = rw e at h in cc
     go false e h k = let z : has (byte "_") t ≡ false = rw e at h in rw (e, bare) (ap (λ (l : List ℕ). x ∷ l) (k z))
 
@@ -98,7 +101,8 @@ unfolding copyOrPart
 as-copy c n e h = rw e h
 
 -- where they stand
-pub in-text : {sign : Sign} {start from len : ℕ} (o n : ℕ) (c : Bool) (p buffer : List ℕ) → c ≡ false → Beside sign (o + n) from p
+pub in-text : {sign : Sign} {start from len : ℕ} (o n : ℕ) (c : Bool) (p buffer : List ℕ) → c ≡ false
+    → Beside sign (o + n) from p
     → start ≡ from - length (kept sign) → len ≡ length (kept sign) + length p
     → Handed o (copyOrPart c n (kept sign ++ bare p)) buffer (Text start len) buffer
 unfolding copyOrPart

@@ -17,4 +17,5 @@ pub record Beside (sign : Sign) (start from : ℕ) (p : List ℕ) : Type 0 where
 -- the digits p at `from`, with their sign, as the value of a token at o, n bytes from which they stand if they are not copied
 abbrev pub HandsDigits : Bool → Sign → ℕ → List ℕ → List ℕ → Reading → List ℕ → Type 0
 HandsDigits copied sign from p buffer r after =
-    (o n : ℕ) → (copied ≡ false → Beside sign (o + n) from p) → Handed o (copyOrPart copied n (kept sign ++ bare p)) buffer r after
+    (o n : ℕ) → (copied ≡ false → Beside sign (o + n) from p)
+    → Handed o (copyOrPart copied n (kept sign ++ bare p)) buffer r after

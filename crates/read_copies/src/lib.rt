@@ -39,7 +39,8 @@ pub fn hand(
 // Digits and their sign in the buffer, if it has the room.
 fn copy(text: &[u8], from: usize, to: usize, sign: Sign, buffer: &mut [u8]) -> Reading
     requires { ⌜ (from ≤ to) × (to ≤ length (now text)) × (length (kept sign) ≤ from) ⌝ }
-    ensures { λ r. ⌜ ((o : ℕ) → Handed o (copy-of (kept sign ++ bare (slice from to (now (text .entry))))) (now (buffer .entry)) r (now (buffer .exit))) ⌝ }
+    ensures { λ r. ⌜ ((o : ℕ)
+        → Handed o (copy-of (kept sign ++ bare (slice from to (now (text .entry))))) (now (buffer .entry)) r (now (buffer .exit))) ⌝ }
 {
     let first = kept_len(sign);
     let len = first + bare_len(text, from, to);
@@ -97,7 +98,8 @@ fn bare_len(text: &[u8], from: usize, to: usize) -> usize
 
 // Those bytes, written from a place of the buffer on.
 fn bare_into(text: &[u8], from: usize, to: usize, buffer: &mut [u8], at: usize)
-    requires { ⌜ (from ≤ to) × (to ≤ length (now text)) × (at + length (bare (slice from to (now text))) ≤ length (now buffer)) ⌝ }
+    requires { ⌜ (from ≤ to) × (to ≤ length (now text))
+        × (at + length (bare (slice from to (now text))) ≤ length (now buffer)) ⌝ }
     ensures { λ _. ⌜ Put (now (buffer .entry)) (now (buffer .exit)) at (bare (slice from to (now (text .entry)))) ⌝ }
 {
     let mut n = at;

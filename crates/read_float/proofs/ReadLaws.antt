@@ -15,8 +15,10 @@ use Rattle.read_parts.specs.Handing.{Hands}
 use Rattle.read_token.specs.Here.{Denied}
 use Rattle.read_token.proofs.PresentLaws.{hands-reads}
 
-pub part-read : {text : List ℕ} {token : Token} {p : FloatPart} {buffer after : List ℕ} {r : Reading} {f : FloatKind} → There text token
-    → token .kind ≡ kind.Float f → Hands (Reader.float p) (kind.Float f) text (token .offset) (token .offset + token .len) buffer r after
+pub part-read : {text : List ℕ} {token : Token} {p : FloatPart} {buffer after : List ℕ} {r : Reading} {f : FloatKind}
+    → There text token
+    → token .kind ≡ kind.Float f
+    → Hands (Reader.float p) (kind.Float f) text (token .offset) (token .offset + token .len) buffer r after
     → Read (Reader.float p) text token buffer r after
 part-read t e h = hands-reads t e Takes.a-float h
 

@@ -18,7 +18,8 @@ use Rattle.read_parts.specs.Handing.{HandsWhole}
 use Rattle.read_token.specs.Here.{Denied}
 use Rattle.read_token.proofs.PresentLaws.{there-slice, slice-reads}
 
-pub integer-read : {text : List ℕ} {token : Token} {buffer after : List ℕ} {r : Reading} {i : IntegerKind} → There text token → token .kind ≡ kind.Integer i
+pub integer-read : {text : List ℕ} {token : Token} {buffer after : List ℕ} {r : Reading} {i : IntegerKind} → There text token
+    → token .kind ≡ kind.Integer i
     → HandsWhole (i .hex) (i .underscores) text (token .offset) (token .offset + token .len) buffer r after
     → Read Reader.digits text token buffer r after
 integer-read {i = i} t e h =
@@ -30,7 +31,8 @@ integer-read {i = i} t e h =
 pub integer-float : {sign : Sign} {hex : Bool} {w : List ℕ} → IsInteger sign hex w → IsFloat hex w
 integer-float (IsInteger.integer {u = u} {s = s} g d) = go [] (IsFloat.float g d Fraction.none Exponent.none) (append-nil s)
   where
-    go : {hex : Bool} (n : List ℕ) → IsFloat hex (u ++ (prefix hex ++ (s ++ n))) → s ++ n ≡ s → IsFloat hex (u ++ (prefix hex ++ s))
+    go : {hex : Bool} (n : List ℕ) → IsFloat hex (u ++ (prefix hex ++ (s ++ n))) → s ++ n ≡ s
+        → IsFloat hex (u ++ (prefix hex ++ s))
     go {hex} n x q = subst (λ (z : List ℕ). IsFloat hex (u ++ (prefix hex ++ z))) q x
 
 -- ---- a token that is not there, or is another

@@ -12,7 +12,8 @@ use Rattle.wat_values.specs.Values.{part, refused, copyOrPart, copied}
 use Rattle.wat_values.specs.Reading.{noPlace, Handed}
 
 module _ (offset : ℕ) (buffer : List ℕ) where
-  pub handed-part : {n start len : ℕ} {v : List ℕ} → start ≡ offset + n → len ≡ length v → Handed offset (part n v) buffer (Text start len) buffer
+  pub handed-part : {n start len : ℕ} {v : List ℕ} → start ≡ offset + n → len ≡ length v
+      → Handed offset (part n v) buffer (Text start len) buffer
   handed-part s l = rw (s, l) (Handed.fits (omega arith))
 
   -- an error for which nothing was copied

@@ -40,7 +40,8 @@ module _ {e : LexError} {text : List ℕ} {offset len : ℕ} (s : Sigiled e text
   tail-long : length (tail text offset len) ≡ len - 1
   tail-long = omega (arith, long, ap length (s .is))
 
-  pub name-empty : (buffer : List ℕ) → len - 1 ≡ 0 → NameRead e (tail text offset len) offset buffer (Refused (Lexical e) offset) buffer
+  pub name-empty : (buffer : List ℕ) → len - 1 ≡ 0
+      → NameRead e (tail text offset len) offset buffer (Refused (Lexical e) offset) buffer
   name-empty buffer z = go (tail text offset len) (tail-long ∙ z)
     where
       go : (w : List ℕ) → length w ≡ 0 → NameRead e w offset buffer (Refused (Lexical e) offset) buffer
@@ -72,7 +73,8 @@ module _ {e : LexError} {text : List ℕ} {offset len : ℕ} (s : Sigiled e text
         let y = go (s .named) tail-long (head ∙ q) in
         record { fits = omega (arith, s .fits, name-some); value = y .0; is = y .1 }
       where
-        go : {w : List ℕ} {v : Value} → Name e w v → length w ≡ len - 1 → getD w 0 0 ≡ byte "\"" → (v : List ℕ) × Str lenient w v
+        go : {w : List ℕ} {v : Value} → Name e w v → length w ≡ len - 1 → getD w 0 0 ≡ byte "\""
+            → (v : List ℕ) × Str lenient w v
         go (Name.word (Each.next h r)) l q = absurd (never (rw q at h) quote-no-idchar)
         go Name.nothing l q = absurd (z (sym l))
         go (Name.quoted p u) l q = (_, p)
@@ -82,7 +84,8 @@ module _ {e : LexError} {text : List ℕ} {offset len : ℕ} (s : Sigiled e text
 -- ---- after its string is read
 
 -- a copy lies in the buffer
-pub names-room : {w buffer after : List ℕ} {at start n : ℕ} {r : Reading} → Quotes w at buffer r after → r ≡ Buffer start n → n ≤ length after
+pub names-room : {w buffer after : List ℕ} {at start n : ℕ} {r : Reading} → Quotes w at buffer r after → r ≡ Buffer start n
+    → n ≤ length after
 names-room (Quotes.plain p h) q = differ (cc)
 names-room (Quotes.too-short p h f) q = differ (cc)
 names-room {buffer = buffer} {n = n} (Quotes.copied {v = v} p h f) q =
@@ -98,9 +101,11 @@ module _ (e : LexError) {w : List ℕ} (offset : ℕ) {buffer : List ℕ} where
 
   names-not : {r : Reading} {after : List ℕ} {a b : ℕ} (v : List ℕ) → Str lenient w v → Says v (Bad a b)
       → Handed offset (refused (copied (has (byte "\\") w) v) (InvalidUtf8Id a b)) buffer r after → NameRead e w offset buffer r after
-  names-not {a = a} {b = b} v p u h = record { value = refused (copied (has (byte "\\") w) v) (InvalidUtf8Id a b); is = Name.quoted-wrong p u; handed = h }
+  names-not {a = a} {b = b} v p u h =
+      record { value = refused (copied (has (byte "\\") w) v) (InvalidUtf8Id a b); is = Name.quoted-wrong p u; handed = h }
 
-  pub names-empty : {r : Reading} {after : List ℕ} {start n : ℕ} → Quotes w (offset + 1) buffer r after → r ≡ Text start n → n ≡ 0
+  pub names-empty : {r : Reading} {after : List ℕ} {start n : ℕ} → Quotes w (offset + 1) buffer r after → r ≡ Text start n
+      → n ≡ 0
       → NameRead e w offset buffer (Refused (Lexical e) offset) after
   names-empty (Quotes.plain {v = v} p h) q z = go v p (cc)
     where
@@ -111,7 +116,8 @@ module _ (e : LexError) {w : List ℕ} (offset : ℕ) {buffer : List ℕ} where
   names-empty (Quotes.copied p h f) q z = differ (cc)
 
   -- a string that is not copied is UTF-8, because it is made of characters
-  pub names-text : {r : Reading} {after : List ℕ} {start n : ℕ} → Quotes w (offset + 1) buffer r after → r ≡ Text start n → (n ≡ 0 → ⊥)
+  pub names-text : {r : Reading} {after : List ℕ} {start n : ℕ} → Quotes w (offset + 1) buffer r after → r ≡ Text start n
+      → (n ≡ 0 → ⊥)
       → NameRead e w offset buffer (Text start n) after
   names-text {start = start} {n = n} (Quotes.plain {v = v} p h) q z =
       let a : start ≡ offset + 1 + 1 = cc in
@@ -121,7 +127,8 @@ module _ (e : LexError) {w : List ℕ} (offset : ℕ) {buffer : List ℕ} where
   names-text (Quotes.copied p h f) q z = differ (cc)
 
   -- the check of the buffer's part from 0 to n is that of the name, and a copy is not empty
-  pub names-copied : {r : Reading} {after : List ℕ} {start n : ℕ} → Quotes w (offset + 1) buffer r after → r ≡ Buffer start n → Says (take (n - 0) after) Ok
+  pub names-copied : {r : Reading} {after : List ℕ} {start n : ℕ} → Quotes w (offset + 1) buffer r after
+      → r ≡ Buffer start n → Says (take (n - 0) after) Ok
       → NameRead e w offset buffer (Buffer 0 n) after
   names-copied (Quotes.plain p h) q u = differ (cc)
   names-copied (Quotes.too-short p h f) q u = differ (cc)
@@ -130,7 +137,8 @@ module _ (e : LexError) {w : List ℕ} (offset : ℕ) {buffer : List ℕ} where
       let o : n - 0 ≡ length v = omega arith in
       names-right v p (str-escaped p h) (rw (o, take-append-seam v (drop (length v) buffer)) at u) (handed-copy offset buffer v 2 h f l)
 
-  pub names-wrong : {r : Reading} {after : List ℕ} {start n a b : ℕ} → Quotes w (offset + 1) buffer r after → r ≡ Buffer start n → Says (take (n - 0) after) (Bad a b)
+  pub names-wrong : {r : Reading} {after : List ℕ} {start n a b : ℕ} → Quotes w (offset + 1) buffer r after
+      → r ≡ Buffer start n → Says (take (n - 0) after) (Bad a b)
       → NameRead e w offset buffer (Refused (Lexical (InvalidUtf8Id a b)) offset) after
   names-wrong (Quotes.plain p h) q u = differ (cc)
   names-wrong (Quotes.too-short p h f) q u = differ (cc)
@@ -140,7 +148,8 @@ module _ (e : LexError) {w : List ℕ} (offset : ℕ) {buffer : List ℕ} where
       names-not v p (rw (o, take-append-seam v (drop (length v) buffer)) at u) (wrong-copy offset buffer v h f)
 
   -- 32 comes before 22
-  pub names-short : {r : Reading} {after : List ℕ} {x : Refusal} {at : ℕ} → Quotes w (offset + 1) buffer r after → r ≡ Refused x at
+  pub names-short : {r : Reading} {after : List ℕ} {x : Refusal} {at : ℕ} → Quotes w (offset + 1) buffer r after
+      → r ≡ Refused x at
       → NameRead e w offset buffer (Refused x at) after
   names-short (Quotes.plain p h) q = differ (cc)
   names-short {x = x} {at = at} (Quotes.too-short {v = v} p h f) q =
@@ -153,7 +162,8 @@ module _ (e : LexError) {w : List ℕ} (offset : ℕ) {buffer : List ℕ} where
       go (Bad a b) u = names-not v p u (wrong-short offset buffer v h f)
   names-short (Quotes.copied p h f) q = differ (cc)
 
-  pub names-absent : {r : Reading} {after : List ℕ} → Quotes w (offset + 1) buffer r after → r ≡ Absent → NameRead e w offset buffer Absent after
+  pub names-absent : {r : Reading} {after : List ℕ} → Quotes w (offset + 1) buffer r after → r ≡ Absent
+      → NameRead e w offset buffer Absent after
   names-absent (Quotes.plain p h) q = differ (cc)
   names-absent (Quotes.too-short p h f) q = differ (cc)
   names-absent (Quotes.copied p h f) q = differ (cc)

@@ -33,7 +33,8 @@ elems-plain (Elems.next {s = s} {v = v} {t = t} {w = w} p r) e =
     let y = b .0 in
     (cc, WellFormed.more (a .1) (b .1))
 
-pub str-plain : {σ : Settings} {w v : List ℕ} → Str σ w v → has (byte "\\") w ≡ false → (length w ≡ length v + 2) × WellFormed v
+pub str-plain : {σ : Settings} {w v : List ℕ} → Str σ w v → has (byte "\\") w ≡ false
+    → (length w ≡ length v + 2) × WellFormed v
 unfolding has
 str-plain (Str.quoted {s = s} r) e =
     let a = elems-plain r (has-parts (byte "\\") s (byte "\"" ∷ []) e .0) in

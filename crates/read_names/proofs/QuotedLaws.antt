@@ -22,7 +22,8 @@ use Rattle.read_names.specs.Names.{Quoted, Quotes}
 use Rattle.read_names.proofs.PlainLaws.{str-plain}
 
 pub first-byte : (text : List ℕ) (at len : ℕ) → 1 ≤ len → getD (take len (drop at text)) 0 0 ≡ getD text at 0
-first-byte text at len h = getD-take len (drop at text) 0 0 (omega arith) ∙ getD-drop at text 0 0 ∙ ap (λ (n : ℕ). getD text n 0) (add-zero at)
+first-byte text at len h =
+    getD-take len (drop at text) 0 0 (omega arith) ∙ getD-drop at text 0 0 ∙ ap (λ (n : ℕ). getD text n 0) (add-zero at)
 
 pub str-quote : {σ : Settings} {w v : List ℕ} → Str σ w v → getD w 0 0 ≡ byte "\""
 str-quote (Str.quoted r) = refl
@@ -71,7 +72,8 @@ module _ {text : List ℕ} {at len : ℕ} (q : Quoted text at len) where
       pub quoted-short : length buffer < n → Quotes (take len (drop at text)) at buffer (Refused BufferTooShort noPlace) buffer
       quoted-short h = Quotes.too-short (q .is) (escape ∙ f) (omega (arith, measured))
 
-      pub quoted-copied : {after : List ℕ} {m : ℕ} → n ≤ length buffer → Copied buffer after (valueOf (string lenient (drop (at + 1) text))) m
+      pub quoted-copied : {after : List ℕ} {m : ℕ} → n ≤ length buffer
+          → Copied buffer after (valueOf (string lenient (drop (at + 1) text))) m
           → Quotes (take len (drop at text)) at buffer (Buffer 0 n) after
       quoted-copied {after} h c =
           let d : after ≡ q .value ++ drop (length (q .value)) buffer = rw (whole .1, zero-add (length (q .value))) at (c .put .is) in

@@ -38,7 +38,8 @@ module _ {text : List ℕ} {at end : ℕ} {k : FloatKind} (t : At (Tok (kind.Flo
 
   module _ {p : FloatPart} {buffer after : List ℕ} {r : Reading} where
     -- what is handed over of this kind and part is so of an equal kind and part
-    pub likewise : {j : FloatKind} {q : FloatPart} → k ≡ j → p ≡ q → Hands (Reader.float q) (kind.Float j) text at end buffer r after
+    pub likewise : {j : FloatKind} {q : FloatPart} → k ≡ j → p ≡ q
+        → Hands (Reader.float q) (kind.Float j) text at end buffer r after
         → Hands (Reader.float p) (kind.Float k) text at end buffer r after
     likewise e f h = rw (e, f) h
 
@@ -72,14 +73,17 @@ module _ {text : List ℕ} {at end : ℕ} {k : FloatKind} (t : At (Tok (kind.Flo
         go : Hands (Reader.float p) (kind.Float (Nan n)) text at end buffer Absent buffer
         go v Reads.of-nan = none-left at buffer
 
-    pub payload-lacks : {n u : Bool} → k ≡ NanVal n u → (p ≡ the.Payload → ⊥) → Hands (Reader.float p) (kind.Float k) text at end buffer Absent buffer
+    pub payload-lacks : {n u : Bool} → k ≡ NanVal n u → (p ≡ the.Payload → ⊥)
+        → Hands (Reader.float p) (kind.Float k) text at end buffer Absent buffer
     payload-lacks {n} {u} e o = likewise e refl (go p o)
       where
-        go : (q : FloatPart) → (q ≡ the.Payload → ⊥) → Hands (Reader.float q) (kind.Float (NanVal n u)) text at end buffer Absent buffer
+        go : (q : FloatPart) → (q ≡ the.Payload → ⊥)
+            → Hands (Reader.float q) (kind.Float (NanVal n u)) text at end buffer Absent buffer
         go q o v (Reads.a-payload g y is) = absurd (o refl)
         go q o v (Reads.of-payload m) = none-left at buffer
 
-    pub normal-lacks : {u h : Bool} → k ≡ Normal u h → p ≡ the.Payload → Hands (Reader.float p) (kind.Float k) text at end buffer Absent buffer
+    pub normal-lacks : {u h : Bool} → k ≡ Normal u h → p ≡ the.Payload
+        → Hands (Reader.float p) (kind.Float k) text at end buffer Absent buffer
     normal-lacks {u} {h} e f = likewise e f go
       where
         go : Hands (Reader.float the.Payload) (kind.Float (Normal u h)) text at end buffer Absent buffer

@@ -1,5 +1,5 @@
--- The parts of a number at places in a text: where the model's scans say that they begin and end, and that handing over the digits there hands over
--- the part. Assumes nothing.
+-- The parts of a number at places in a text: where the model's scans say that they begin and end, and that handing
+-- over the digits there hands over the part. Assumes nothing.
 use Prim.Native.Nat.{ℕ, _+_, _-_, _≤_, _<_}
 use native.Mathlib.Omega.{arith}
 use mathlib.Core.Path.{_≡_, refl, sym, ap, subst, _∙_}
@@ -46,13 +46,15 @@ pub none-left : (o : ℕ) (buffer : List ℕ) → Handed o absent buffer Absent 
 none-left o buffer = Handed.fits (omega arith)
 
 -- a sign that is kept stands before what follows it
-pub sign-before : (text : List ℕ) (i from end : ℕ) {sign : Sign} → end ≤ length text → sign ≡ sign-of (slice i end text) → i ≤ end
+pub sign-before : (text : List ℕ) (i from end : ℕ) {sign : Sign} → end ≤ length text → sign ≡ sign-of (slice i end text)
+    → i ≤ end
     → slice from end text ≡ after-sign (slice i end text) → from ≤ end
     → length (kept sign) ≤ from
 sign-before text i from end {sign} fits g h w k =
     let s = signs (slice i end text) in
     let e : length (kept sign) ≡ length (kept (sign-of (slice i end text))) = ap (λ (z : Sign). length (kept z)) g in
-    let a : from ≡ i + length (s .0) = apart text end fits i from (s .0) (after-sign (slice i end text)) (record { within = h; same = s .2 })
+    let a : from ≡ i + length (s .0) =
+    apart text end fits i from (s .0) (after-sign (slice i end text)) (record { within = h; same = s .2 })
     (record { within = k; same = w }) in
     omega (arith, signed-length (s .1))
 
@@ -74,7 +76,8 @@ module _ {hex : Bool} {text : List ℕ} {at end : ℕ} (t : At (IsFloat hex) tex
         let a = after-passed (x .signed) (body-plain hex (f ++ e) (x .whole)) in
         further text end (t .fits) i j (prefix hex) (p ++ (f ++ e)) (record { within = h; same = q ∙ ap after-sign (x .is) ∙ a }) k
 
-    pub whole-passed : {i : ℕ} → Left text end (p ++ (f ++ e)) i → run hex true (slice i end text) ≡ past (has (byte "_") p) (f ++ e)
+    pub whole-passed : {i : ℕ} → Left text end (p ++ (f ++ e)) i
+        → run hex true (slice i end text) ≡ past (has (byte "_") p) (f ++ e)
     whole-passed l = ap (run hex true) (l .same) ∙ passes (f ++ e) (x .whole) (fraction-stops (x .after) (x .power))
 
     pub fraction-past : {i : ℕ} → Left text end (f ++ e) i → fraction hex (slice i end text) ≡ past (has (byte "_") f) e
@@ -96,8 +99,10 @@ module _ {hex : Bool} {text : List ℕ} {at end : ℕ} (t : At (IsFloat hex) tex
       no-gap-after : has (byte "_") (f ++ e) ≡ false
       no-gap-after = has-parts (byte "_") p (f ++ e) no-gap .1
 
-    pub whole-handed : {copied : Bool} {buffer after : List ℕ} {r : Reading} {g : Sign} {from to : ℕ} → g ≡ sign-of (slice at end text)
-        → Left text end (p ++ (f ++ e)) from → Left text end (f ++ e) to → HandsDigits copied g from (slice from to text) buffer r after
+    pub whole-handed : {copied : Bool} {buffer after : List ℕ} {r : Reading} {g : Sign} {from to : ℕ}
+        → g ≡ sign-of (slice at end text)
+        → Left text end (p ++ (f ++ e)) from → Left text end (f ++ e) to
+        → HandsDigits copied g from (slice from to text) buffer r after
         → copied ≡ hex || has (byte "_") (slice at end text)
         → Handed at (copyOrPart copied (length (dropped sign)) (kept sign ++ bare p)) buffer r after
     whole-handed {copied} {buffer} {after} {r} {g} {from} {to} q l m h c =
@@ -118,7 +123,8 @@ module _ {hex : Bool} {text : List ℕ} {at end : ℕ} (t : At (IsFloat hex) tex
   pub leaves-within : {i : ℕ} (rest : List ℕ → List ℕ → List ℕ → List ℕ) → Leaves hex text at end rest i → i ≤ end
   leaves-within rest l = let z = some-split in l (z .0) (z .1) (z .2) (z .3) (z .4) (z .5) .within
 
-  pub whole-fits : {g : Sign} {from to : ℕ} → g ≡ sign-of (slice at end text) → Leaves hex text at end (λ p f e. p ++ (f ++ e)) from
+  pub whole-fits : {g : Sign} {from to : ℕ} → g ≡ sign-of (slice at end text)
+      → Leaves hex text at end (λ p f e. p ++ (f ++ e)) from
       → Leaves hex text at end (λ p f e. f ++ e) to → (from ≤ to) × (to ≤ length text) × (length (kept g) ≤ from)
   whole-fits {g} {from} {to} q l m = go (some-split .5)
     where
@@ -180,7 +186,8 @@ module _ {hex : Bool} {text : List ℕ} {at end : ℕ} (t : At (IsFloat hex) tex
     exponent-absent {buffer} h v (Reads.no-exponent x) = none-left at buffer
     exponent-absent {buffer} h v (Reads.an-exponent x g d) = absurd (omega (arith, rest x))
 
-    pub exponent-handed : {buffer after : List ℕ} {r : Reading} {g : Sign} {from : ℕ} → mark < end → g ≡ sign-of (slice (mark + 1) end text)
+    pub exponent-handed : {buffer after : List ℕ} {r : Reading} {g : Sign} {from : ℕ} → mark < end
+        → g ≡ sign-of (slice (mark + 1) end text)
         → slice from end text ≡ after-sign (slice (mark + 1) end text) → from ≤ end
         → HandsDigits copied g from (slice from end text) buffer r after → copied ≡ has (byte "_") (slice at end text)
         → Hands (Reader.float the.Exponent) (kind.Float (Normal copied hex)) text at end buffer r after
@@ -213,7 +220,8 @@ module _ {text : List ℕ} {at end : ℕ} (t : At Payload text at end) {sign : S
     -- its digits, after the sign and nan:0x
     pub payload-at : (i j : ℕ) → slice i end text ≡ after-sign (slice at end text) → i ≤ end → j ≡ i + 6 → Left text end s j
     payload-at i j e h q =
-        further text end (t .fits) i j nan-colon s (record { within = h; same = e ∙ ap after-sign is ∙ after-passed g (plain refl refl) }) q
+        further text end (t .fits) i j nan-colon s
+        (record { within = h; same = e ∙ ap after-sign is ∙ after-passed g (plain refl refl) }) q
 
     pub payload-handed : {copied : Bool} {buffer after : List ℕ} {r : Reading} {from : ℕ} → Left text end s from
         → HandsDigits copied Unsigned from (slice from end text) buffer r after → copied ≡ has (byte "_") (slice at end text)
@@ -224,4 +232,8 @@ module _ {text : List ℕ} {at end : ℕ} (t : At Payload text at end) {sign : S
         subst (λ (z : List ℕ). HandsDigits copied Unsigned from z buffer r after) (l .same) d at (length (u ++ nan-colon))
         (λ k.
         let e : has (byte "_") (u ++ (nan-colon ++ s)) ≡ false = sym (ap (has (byte "_")) is) ∙ (sym c ∙ k) in
-        record { next = omega arith; plain = bare-plain s (has-parts (byte "_") nan-colon s (has-parts (byte "_") u (nan-colon ++ s) e .1) .1) })
+        record {
+          next = omega arith;
+          plain =
+              bare-plain s (has-parts (byte "_") nan-colon s (has-parts (byte "_") u (nan-colon ++ s) e .1) .1);
+        })

@@ -26,7 +26,8 @@ module _ (text : List ℕ) (end : ℕ) (fits : end ≤ length text) where
   between i j a b l m =
       let q = apart i j a b l m in
       let h = m .within in
-      let n : length (take i (take end text)) ≡ i = length-take-le i (take end text) (omega (arith, length-take-le end text fits, l .within)) in
+      let n : length (take i (take end text)) ≡ i =
+      length-take-le i (take end text) (omega (arith, length-take-le end text fits, l .within)) in
       let k : j ≡ length (take i (take end text)) + length a = omega arith in
       let t : take j text ≡ take i (take end text) ++ a =
       sym (take-take j end text h)
@@ -44,11 +45,13 @@ module _ (text : List ℕ) (end : ℕ) (fits : end ≤ length text) where
       record {
         within = omega (arith, ap length (l .same), length-slice i end text fits);
         same =
-            ap (λ (z : ℕ). slice z end text) q ∙ sym (drop-drop (length a) i (take end text)) ∙ ap (drop (length a)) (l .same) ∙ drop-append-seam a b;
+            ap (λ (z : ℕ). slice z end text) q ∙ sym (drop-drop (length a) i (take end text)) ∙ ap (drop (length a)) (l .same)
+            ∙ drop-append-seam a b;
       }
 
 -- the place where a part ends that the model passes
-pub left-of : (skip : Skip) {text : List ℕ} {end : ℕ} {m : Past} {u u′ : Bool} {v : List ℕ} {i : ℕ} → skip ≡ To u i → Skipped text end m skip
+pub left-of : (skip : Skip) {text : List ℕ} {end : ℕ} {m : Past} {u u′ : Bool} {v : List ℕ} {i : ℕ} → skip ≡ To u i
+    → Skipped text end m skip
     → m ≡ past u′ v → Left text end v i
 left-of Bad e s p = differ (cc)
 left-of (To w j) {text} {end} {m} {u} {u′} {v} {i} e s p =
@@ -57,7 +60,8 @@ left-of (To w j) {text} {end} {m} {u} {u′} {v} {i} e s p =
     let y : slice j end text ≡ v = cc in
     record { within = rw q at (s .within); same = rw q at y }
 
-pub never-bad : (skip : Skip) {text : List ℕ} {end : ℕ} {m : Past} {u : Bool} {v : List ℕ} {P : Type 0} → skip ≡ Bad → Skipped text end m skip
+pub never-bad : (skip : Skip) {text : List ℕ} {end : ℕ} {m : Past} {u : Bool} {v : List ℕ} {P : Type 0} → skip ≡ Bad
+    → Skipped text end m skip
     → m ≡ past u v → P
 never-bad Bad e s p = differ (let z = s .same in cc)
 never-bad (To w j) e s p = differ (cc)

@@ -1,5 +1,6 @@
-// The parts of a number as the readers hand them over (`Token::integer` and `Token::float` of the Rust): digits, fraction, exponent and payload.
-// Each is given the token's place, from `at` to `end`, and what its kind says: hexadecimal digits, underscores.
+// The parts of a number as the readers hand them over (`Token::integer` and `Token::float` of the Rust): digits,
+// fraction, exponent and payload. Each is given the token's place, from `at` to `end`, and what its kind says:
+// hexadecimal digits, underscores.
 ghost use mathlib.Core.Path.{_≡_};
 ghost use mathlib.Core.Bool.{Bool};
 ghost use mathlib.Core.List.{List, _++_};
@@ -146,7 +147,8 @@ fn past_whole(text: &[u8], at: usize, end: usize, hex: bool) -> usize
 
 // The place that a part ends at; `end` where there is no such part, which nobody looks at.
 fn end_of(skip: Skip, end: usize) -> usize
-    ensures { λ r. ⌜ ((text : List ℕ) (m : Past) (u : Bool) (v : List ℕ) → Skipped text end m skip → m ≡ past u v → Left text end v r) ⌝ }
+    ensures { λ r. ⌜ ((text : List ℕ) (m : Past) (u : Bool) (v : List ℕ) → Skipped text end m skip → m ≡ past u v
+        → Left text end v r) ⌝ }
 {
     match skip {
         Skip::Bad => end,

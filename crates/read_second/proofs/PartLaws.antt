@@ -14,7 +14,8 @@ module _ {text buffer : List ℕ} {a : Reading} where
   pub second-text : {start len : ℕ} {v : List ℕ} → a ≡ Text start len → PartOf text start len v → Second text buffer a v
   second-text e (PartOf.inside h) = rw e (Second.in-text h)
   second-text {start} {len} e (PartOf.outside h) =
-      Second.none (λ s l q. let z : Text start len ≡ Text s l = sym e ∙ q in let i : start ≡ s = cc in let j : len ≡ l = cc in omega arith)
+      Second.none (λ s l q. let z : Text start len ≡ Text s l = sym e ∙ q in let i : start ≡ s = cc in let j : len ≡ l =
+      cc in omega arith)
       (λ s l q. let z : Text start len ≡ Buffer s l = sym e ∙ q in differ (cc))
 
   pub second-buffer : {start len : ℕ} {v : List ℕ} → a ≡ Buffer start len → PartOf buffer start len v → Second text buffer a v

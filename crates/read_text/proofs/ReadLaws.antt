@@ -30,8 +30,10 @@ use Rattle.read_names.specs.Names.{Quoted, Quotes, tail, Sigiled, NameRead}
 use Rattle.read_names.proofs.HandLaws.{handed-part, handed-left, handed-short, handed-copy}
 use Rattle.read_token.proofs.PresentLaws.{there-fits, there-reads}
 
-pub src-reads : {text : List ℕ} {token : Token} → There text token → Read Reader.src text token [] (reading.Text (token .offset) (token .len)) []
-src-reads {text} {token} t = Read.reads t Reads.itself (handed-part (token .offset) [] (sym (add-zero (token .offset))) (sym (token-long (t .lexed))))
+pub src-reads : {text : List ℕ} {token : Token} → There text token
+    → Read Reader.src text token [] (reading.Text (token .offset) (token .len)) []
+src-reads {text} {token} t =
+    Read.reads t Reads.itself (handed-part (token .offset) [] (sym (add-zero (token .offset))) (sym (token-long (t .lexed))))
 
 -- ---- 31
 
@@ -41,7 +43,8 @@ module _ {text : List ℕ} {token : Token} {k : TokenKind} where
   taken-there (Taken.missing b) q = differ (cc)
   taken-there (Taken.other-kind t n) q = differ (cc)
 
-  pub taken-refused : {m : TokenCheck} {r : Refusal} {p : ℕ} (reader : Reader) (buffer : List ℕ) → ((j : TokenKind) → Takes reader j → j ≡ k)
+  pub taken-refused : {m : TokenCheck} {r : Refusal} {p : ℕ} (reader : Reader) (buffer : List ℕ)
+      → ((j : TokenKind) → Takes reader j → j ≡ k)
       → Taken text token k m → m ≡ presence.Refused r p → Read reader text token buffer (reading.Refused r p) buffer
   taken-refused reader buffer only (Taken.taken t e) q = differ (cc)
   taken-refused {r = r} {p = p} reader buffer only (Taken.missing {r = x} {p = y} b) q =
@@ -70,14 +73,19 @@ module _ {text : List ℕ} {token : Token} (t : There text token × (token .kind
 
   pub string-reads : {buffer after : List ℕ} {r : Reading} → Quotes (own text token) (token .offset) buffer r after
       → Read Reader.string text token buffer r after
-  string-reads {buffer} (Quotes.plain {v = v} p h) = there-reads (t .0) (t .1) (Reads.a-string p) (handed-left (token .offset) buffer v 1 h refl refl)
-  string-reads {buffer} (Quotes.too-short {v = v} p h f) = there-reads (t .0) (t .1) (Reads.a-string p) (handed-short (token .offset) buffer v 1 h f)
-  string-reads {buffer} (Quotes.copied {v = v} p h f) = there-reads (t .0) (t .1) (Reads.a-string p) (handed-copy (token .offset) buffer v 1 h f refl)
+  string-reads {buffer} (Quotes.plain {v = v} p h) =
+      there-reads (t .0) (t .1) (Reads.a-string p) (handed-left (token .offset) buffer v 1 h refl refl)
+  string-reads {buffer} (Quotes.too-short {v = v} p h f) =
+      there-reads (t .0) (t .1) (Reads.a-string p) (handed-short (token .offset) buffer v 1 h f)
+  string-reads {buffer} (Quotes.copied {v = v} p h f) =
+      there-reads (t .0) (t .1) (Reads.a-string p) (handed-copy (token .offset) buffer v 1 h f refl)
 
 -- ---- names
 
-tail-is : (text : List ℕ) (token : Token) {x : ℕ} {w : List ℕ} → own text token ≡ x ∷ w → w ≡ tail text (token .offset) (token .len)
-tail-is text token {x} {w} e = go (token .len) (drop (token .offset) text) refl e ∙ ap (take (token .len - 1)) (drop-drop 1 (token .offset) text)
+tail-is : (text : List ℕ) (token : Token) {x : ℕ} {w : List ℕ} → own text token ≡ x ∷ w
+    → w ≡ tail text (token .offset) (token .len)
+tail-is text token {x} {w} e =
+    go (token .len) (drop (token .offset) text) refl e ∙ ap (take (token .len - 1)) (drop-drop 1 (token .offset) text)
   where
     go : (n : ℕ) (t : List ℕ) → drop (token .offset) text ≡ t → take n t ≡ x ∷ w → w ≡ take (n - 1) (drop 1 t)
     go zero t q e = differ (cc)
@@ -106,13 +114,15 @@ annotation-naming = record { takes = Takes.an-annotation; only = only; reads = �
     only : (j : TokenKind) → Takes Reader.annotation j → j ≡ kind.Annotation
     only j Takes.an-annotation = refl
 
-    named : {w : List ℕ} {v : Value} → Reads Reader.annotation kind.Annotation w v → (t : List ℕ) × (w ≡ byte "@" ∷ t) × Name EmptyAnnotation t v
+    named : {w : List ℕ} {v : Value} → Reads Reader.annotation kind.Annotation w v
+        → (t : List ℕ) × (w ≡ byte "@" ∷ t) × Name EmptyAnnotation t v
     named (Reads.an-annotation n) = (_, refl, n)
 
 module _
     {reader : Reader} {k : TokenKind} {x : ℕ} {e : LexError} (g : Naming reader k x e)
     {text : List ℕ} {token : Token} (t : There text token × (token .kind ≡ k)) where
-  split : (own text token ≡ x ∷ tail text (token .offset) (token .len)) × (v : Value) × Name e (tail text (token .offset) (token .len)) v
+  split : (own text token ≡ x ∷ tail text (token .offset) (token .len)) × (v : Value)
+      × Name e (tail text (token .offset) (token .len)) v
   split =
       let v = value k t (g .takes) in
       let n = g .named (v .1) in
@@ -122,6 +132,8 @@ module _
   pub name-sigiled : Sigiled e text (token .offset) (token .len)
   name-sigiled = let s = split in record { fits = there-fits (t .0); sigil = x; is = s .0; value = s .1; named = s .2 }
 
-  pub name-reads : {buffer after : List ℕ} {r : Reading} → NameRead e (tail text (token .offset) (token .len)) (token .offset) buffer r after
+  pub name-reads : {buffer after : List ℕ} {r : Reading}
+      → NameRead e (tail text (token .offset) (token .len)) (token .offset) buffer r after
       → Read reader text token buffer r after
-  name-reads n = there-reads (t .0) (t .1) (subst (λ (w : List ℕ). Reads reader k w (n .value)) (sym (split .0)) (g .reads (n .is))) (n .handed)
+  name-reads n =
+      there-reads (t .0) (t .1) (subst (λ (w : List ℕ). Reads reader k w (n .value)) (sym (split .0)) (g .reads (n .is))) (n .handed)

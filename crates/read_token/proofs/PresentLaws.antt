@@ -73,15 +73,18 @@ module _ {text : List ℕ} {token : Token} (t : There text token) where
   pub own-slice : own text token ≡ slice (token .offset) (token .offset + token .len) text
   own-slice =
       let n : token .len ≡ token .offset + token .len - token .offset = omega arith in
-      ap (λ (z : ℕ). take z (drop (token .offset) text)) n ∙ slice-take text (token .offset) (token .offset + token .len) there-fits (omega arith)
+      ap (λ (z : ℕ). take z (drop (token .offset) text)) n
+      ∙ slice-take text (token .offset) (token .offset + token .len) there-fits (omega arith)
 
   pub there-slice : {k : TokenKind} → token .kind ≡ k → Tok k (slice (token .offset) (token .offset + token .len) text)
   there-slice e =
-      subst (λ (k : TokenKind). Tok k (slice (token .offset) (token .offset + token .len) text)) e (subst (Tok (token .kind)) own-slice (is-token (t .lexed)))
+      subst (λ (k : TokenKind). Tok k (slice (token .offset) (token .offset + token .len) text)) e
+      (subst (Tok (token .kind)) own-slice (is-token (t .lexed)))
 
   module _ {reader : Reader} {k : TokenKind} {v : Value} {buffer after : List ℕ} {r : Reading} (e : token .kind ≡ k) where
     -- what its reader leaves is handed over
-    pub there-reads : Reads reader k (own text token) v → Handed (token .offset) v buffer r after → Read reader text token buffer r after
+    pub there-reads : Reads reader k (own text token) v → Handed (token .offset) v buffer r after
+        → Read reader text token buffer r after
     there-reads x h = Read.reads t (subst (λ (j : TokenKind). Reads reader j (own text token) v) (sym e) x) h
 
     pub slice-reads : Reads reader k (slice (token .offset) (token .offset + token .len) text) v → Handed (token .offset) v buffer r after
@@ -90,6 +93,7 @@ module _ {text : List ℕ} {token : Token} (t : There text token) where
 
   -- it has a value for a reader that takes its kind, and whatever hands over each such value answers as the reader
   pub hands-reads : {reader : Reader} {k : TokenKind} {buffer after : List ℕ} {r : Reading} → token .kind ≡ k → Takes reader k
-      → ((v : Value) → Reads reader k (slice (token .offset) (token .offset + token .len) text) v → Handed (token .offset) v buffer r after)
+      → ((v : Value) → Reads reader k (slice (token .offset) (token .offset + token .len) text) v
+      → Handed (token .offset) v buffer r after)
       → Read reader text token buffer r after
   hands-reads e takes h = let v = one.reads (there-slice e) takes in slice-reads e (v .1) (h (v .0) (v .1))

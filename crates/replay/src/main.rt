@@ -1,5 +1,5 @@
-// Answers of the Rust, recorded by `oracle record` (tests/oracle), replayed against Thallusweb: how many agree, by type of row. The rows of the
-// file `answers` are told of in `replay_rows`.
+// Answers of the Rust, recorded by `oracle record` (tests/oracle), replayed against Thallusweb: how many agree, by
+// type of row. The rows of the file `answers` are told of in `replay_rows`.
 ghost use Prim.Native.Nat.{_<_};
 ghost use mathlib.Core.Path.{_≡_};
 ghost use lib.ListN.{length};

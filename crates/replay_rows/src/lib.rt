@@ -1,10 +1,17 @@
 // Rows of recorded answers, and whether ours are the same.
 //
 // The file `answers` has rows of 152 bytes; a number of more than a byte has its least first:
-//   0 the type: 1 one token, 2 annotation, 3 listing, 4 a reader's first call   1 the settings' word, or the reader's number   2 the text's length, at
-//   most 40   3 the length of the list or buffer, at most 64   4 the position, or the token's offset (4 bytes)   8 the budget, or the token's
-//   kind (4)   12 seven numbers of the answer (4 each)   40 the message's length, 0 if there is none   41 seven bytes of 0   48 the text (40)
-//   88 the message, or the lent list or buffer afterwards with 238 where nothing was written (64)
+//    0  the type: 1 one token, 2 annotation, 3 listing, 4 a reader's first call
+//    1  the settings' word, or the reader's number
+//    2  the text's length, at most 40
+//    3  the length of the list or buffer, at most 64
+//    4  the position, or the token's offset (4 bytes)
+//    8  the budget, or the token's kind (4)
+//   12  seven numbers of the answer (4 each)
+//   40  the message's length, 0 if there is none
+//   41  seven bytes of 0
+//   48  the text (40)
+//   88  the message, or the lent list or buffer afterwards with 238 where nothing was written (64)
 // The seven numbers, of types 1 to 3: what was found or why it stopped, 0 nothing or the end, 1 a token or the budget, 2 a refusal, 3 no
 // room; its kind or number; its offset or place; its length or first value; its second value; the position or the count; the listing's
 // position. Of type 4: the five words of thallusweb_read (include/thallusweb.h), the token's length, 0.

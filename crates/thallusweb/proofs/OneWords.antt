@@ -21,28 +21,34 @@ use Rattle.c_asked.proofs.OneAsked.{named-one, named-or-not}
 use Rattle.c_spots.specs.Spots.{PartWords}
 use Rattle.read_call.specs.ByNumber.{ReadBy}
 use Rattle.read_call.proofs.OneReader.{nowhere-one, read-by-one}
-use Rattle.thallusweb.specs.Promises.{Utf8Checked, ParsedWords, AnnotatedWords, ListedWords, Nameless, ReadWords, IntegerSignWords, FloatSignWords, MessageWords}
+use Rattle.thallusweb.specs.Promises.{Utf8Checked, ParsedWords, AnnotatedWords, ListedWords, Nameless, ReadWords}
+use Rattle.thallusweb.specs.Promises.{IntegerSignWords, FloatSignWords, MessageWords}
 
 pub utf8-checked-one : {text a b : List ℕ} → Utf8Checked text a → Utf8Checked text b → a ≡ b
 utf8-checked-one {text} (Utf8Checked.checked r s) (Utf8Checked.checked q t) = ap checkedWords (says-one text r q s t)
 
-pub parsed-words-one : {σ : Settings} {text a b : List ℕ} {pos : ℕ} → ParsedWords σ text pos a → ParsedWords σ text pos b → a ≡ b
+pub parsed-words-one : {σ : Settings} {text a b : List ℕ} {pos : ℕ} → ParsedWords σ text pos a → ParsedWords σ text pos b
+    → a ≡ b
 parsed-words-one (ParsedWords.parsed p) (ParsedWords.parsed q) = ap parsedWords (parses-one p q)
 
-pub annotated-words-one : {σ : Settings} {text a b : List ℕ} {pos : ℕ} → AnnotatedWords σ text pos a → AnnotatedWords σ text pos b → a ≡ b
+pub annotated-words-one : {σ : Settings} {text a b : List ℕ} {pos : ℕ} → AnnotatedWords σ text pos a
+    → AnnotatedWords σ text pos b → a ≡ b
 annotated-words-one (AnnotatedWords.annotated f p) (AnnotatedWords.annotated g q) = ap foundWords (annotates-one p q)
 
-pub listed-words-one : {σ : Settings} {text list a b l m : List ℕ} {start budget : ℕ} → ListedWords σ text start budget list a l → ListedWords σ text start budget list b m → (a ≡ b) × (l ≡ m)
+pub listed-words-one : {σ : Settings} {text list a b l m : List ℕ} {start budget : ℕ}
+    → ListedWords σ text start budget list a l → ListedWords σ text start budget list b m → (a ≡ b) × (l ≡ m)
 listed-words-one (ListedWords.listed p) (ListedWords.listed q) =
     let z = listing-one p q in
     (ap listedWords (z .0), z .1)
 
 -- ---- readers
 
-nameless-one : {text w : List ℕ} {r q : Refusal} {o p : ℕ} → Nameless text w r o → Nameless text w q p → refusedWords r o ≡ refusedWords q p
+nameless-one : {text w : List ℕ} {r q : Refusal} {o p : ℕ} → Nameless text w r o → Nameless text w q p
+    → refusedWords r o ≡ refusedWords q p
 nameless-one x y = let z = nowhere-one (x .at) (y .at) in cc (z .0, z .1)
 
-pub read-words-one : {n : ℕ} {text w buffer a b c d : List ℕ} → ReadWords n text w buffer a c → ReadWords n text w buffer b d → (a ≡ b) × (c ≡ d)
+pub read-words-one : {n : ℕ} {text w buffer a b c d : List ℕ} → ReadWords n text w buffer a c → ReadWords n text w buffer b d
+    → (a ≡ b) × (c ≡ d)
 read-words-one {n} {text} {w} {buffer} {c = c} (ReadWords.read {a = x} p r) (ReadWords.read q s) =
     let z = read-by-one (subst (λ (t : Token). ReadBy n text t buffer x c) (named-one p q) r) s in
     (ap readingWords (z .0), z .1)
@@ -92,5 +98,6 @@ module _ {text buffer w : List ℕ} where
 
 -- ---- messages
 
-pub message-words-one : {n a b : ℕ} {buffer u v c d : List ℕ} → MessageWords n a b buffer u c → MessageWords n a b buffer v d → (u ≡ v) × (c ≡ d)
+pub message-words-one : {n a b : ℕ} {buffer u v c d : List ℕ} → MessageWords n a b buffer u c → MessageWords n a b buffer v d
+    → (u ≡ v) × (c ≡ d)
 message-words-one (MessageWords.told p) (MessageWords.told q) = let z = tells-by-one p q in (ap messageWords (z .0), z .1)

@@ -120,7 +120,8 @@ pub reads-negative-one : {text : List ℕ} {token : Token} {a b : FloatSign}
     → ReadsNegative text token a → ReadsNegative text token b → a ≡ b
 reads-negative-one x y = reading.reads-negative-one x y
 
-pub tells-one : {r : Refusal} {buffer b b′ : List ℕ} {a a′ : Told} → Tells r buffer a b → Tells r buffer a′ b′ → (a ≡ a′) × (b ≡ b′)
+pub tells-one : {r : Refusal} {buffer b b′ : List ℕ} {a a′ : Told} → Tells r buffer a b → Tells r buffer a′ b′
+    → (a ≡ a′) × (b ≡ b′)
 tells-one x y = message.tells-one x y
 
 pub moves-one : {from : Place} {w : List ℕ} {a b : Moved} → Moves from w a → Moves from w b → a ≡ b

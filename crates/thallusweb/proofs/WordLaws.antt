@@ -17,22 +17,27 @@ use Rattle.c_read_words.specs.Words.{readingWords, integerSignWords, floatSignW
 use Rattle.c_asked.specs.Asked.{settingsOf, DenotesNone, Empty, Asks}
 use Rattle.read_call.specs.ByNumber.{ReadBy, Nowhere}
 use Rattle.read_call.proofs.NowhereLaws.{read-nowhere, sign-nowhere, negative-nowhere}
-use Rattle.thallusweb.specs.Promises.{Utf8Checked, ParsedWords, AnnotatedWords, ListedWords, Nameless, ReadWords, IntegerSignWords, FloatSignWords, MessageWords}
+use Rattle.thallusweb.specs.Promises.{Utf8Checked, ParsedWords, AnnotatedWords, ListedWords, Nameless, ReadWords}
+use Rattle.thallusweb.specs.Promises.{IntegerSignWords, FloatSignWords, MessageWords}
 
 pub checked-words : {text w : List ℕ} (r : Checked) → Says text r → w ≡ checkedWords r → Utf8Checked text w
 checked-words {text} r s e = subst (Utf8Checked text) (sym e) (Utf8Checked.checked r s)
 
 -- the lexer's calls, by the settings that a word says
 module _ (word : ℕ) {σ : Settings} (is : σ ≡ settingsOf word) {text : List ℕ} where
-  pub parsed-words : {w : List ℕ} {pos : ℕ} {r : Parsed} → Parses σ text pos r → w ≡ parsedWords r → ParsedWords (settingsOf word) text pos w
+  pub parsed-words : {w : List ℕ} {pos : ℕ} {r : Parsed} → Parses σ text pos r → w ≡ parsedWords r
+      → ParsedWords (settingsOf word) text pos w
   parsed-words {w} {pos} p e =
       subst (λ (τ : Settings). ParsedWords τ text pos w) is (subst (ParsedWords σ text pos) (sym e) (ParsedWords.parsed p))
 
-  pub annotated-words : {w : List ℕ} {pos : ℕ} (f : Found) → Annotates σ text pos f → w ≡ foundWords f → AnnotatedWords (settingsOf word) text pos w
+  pub annotated-words : {w : List ℕ} {pos : ℕ} (f : Found) → Annotates σ text pos f → w ≡ foundWords f
+      → AnnotatedWords (settingsOf word) text pos w
   annotated-words {w} {pos} f a e =
-      subst (λ (τ : Settings). AnnotatedWords τ text pos w) is (subst (AnnotatedWords σ text pos) (sym e) (AnnotatedWords.annotated f a))
+      subst (λ (τ : Settings). AnnotatedWords τ text pos w) is
+      (subst (AnnotatedWords σ text pos) (sym e) (AnnotatedWords.annotated f a))
 
-  pub listed-words : {list w l : List ℕ} {start budget : ℕ} {r : Listed} → Listing σ text start budget list r l → w ≡ listedWords r
+  pub listed-words : {list w l : List ℕ} {start budget : ℕ} {r : Listed} → Listing σ text start budget list r l
+      → w ≡ listedWords r
       → ListedWords (settingsOf word) text start budget list w l
   listed-words {list} {w} {l} {start} {budget} p e =
       subst (λ (τ : Settings). ListedWords τ text start budget list w l) is
@@ -54,7 +59,8 @@ module _ {text w : List ℕ} {t : Token} where
       (read-nowhere (e .long) (λ (a : Reading) (b : List ℕ). ReadWords n text w buffer (readingWords a) b) r
       (λ q p y. ReadWords.nameless (unnamed x e y)))
 
-  pub integer-words : {v : List ℕ} (s : IntegerSign) → Asks w t → ReadsSign text t s → v ≡ integerSignWords s → IntegerSignWords text w v
+  pub integer-words : {v : List ℕ} (s : IntegerSign) → Asks w t → ReadsSign text t s → v ≡ integerSignWords s
+      → IntegerSignWords text w v
   integer-words s (Asks.one q) r z = subst (IntegerSignWords text w) (sym z) (IntegerSignWords.read s q r)
   integer-words s (Asks.none x e) r z =
       subst
@@ -63,7 +69,8 @@ module _ {text w : List ℕ} {t : Token} where
       (sign-nowhere (e .long) (λ (s : IntegerSign). IntegerSignWords text w (integerSignWords s)) r
       (λ q p y. IntegerSignWords.nameless (unnamed x e y)))
 
-  pub float-words : {v : List ℕ} (s : FloatSign) → Asks w t → ReadsNegative text t s → v ≡ floatSignWords s → FloatSignWords text w v
+  pub float-words : {v : List ℕ} (s : FloatSign) → Asks w t → ReadsNegative text t s → v ≡ floatSignWords s
+      → FloatSignWords text w v
   float-words s (Asks.one q) r z = subst (FloatSignWords text w) (sym z) (FloatSignWords.read s q r)
   float-words s (Asks.none x e) r z =
       subst

@@ -2,7 +2,8 @@
 // words; include/thallusweb.h explains each word.
 ghost use Rattle.c_asked.specs.Asked.{settingsOf};
 ghost use Rattle.c_spots.specs.Spots.{PartWords, MovedWords};
-ghost use Rattle.thallusweb.specs.Promises.{Utf8Checked, ParsedWords, AnnotatedWords, ListedWords, ReadWords, IntegerSignWords, FloatSignWords, MessageWords};
+ghost use Rattle.thallusweb.specs.Promises.{Utf8Checked, ParsedWords, AnnotatedWords, ListedWords, ReadWords, IntegerSignWords};
+ghost use Rattle.thallusweb.specs.Promises.{FloatSignWords, MessageWords};
 pub use lex_calls::annotation;
 pub use lex_calls::parse;
 pub use lex_list::list;
@@ -67,7 +68,8 @@ pub extern "C" fn thallusweb_list(
     list: &mut [u8],
     out: &mut [u64; 7],
 )
-    ensures { λ _. ⌜ ListedWords (settingsOf settings) (now (text .entry)) start budget (now (list .entry)) (now (out .exit)) (now (list .exit)) ⌝ }
+    ensures { λ _. ⌜ ListedWords (settingsOf settings) (now (text .entry)) start budget (now (list .entry)) (now (out .exit))
+        (now (list .exit)) ⌝ }
 {
     *out = c_words::listed_words(lex_list::list(
         text,
@@ -87,7 +89,8 @@ pub extern "C" fn thallusweb_read(
     buffer: &mut [u8],
     out: &mut [u64; 5],
 )
-    ensures { λ _. ⌜ ReadWords reader (now (text .entry)) (now (token .entry)) (now (buffer .entry)) (now (out .exit)) (now (buffer .exit)) ⌝ }
+    ensures { λ _. ⌜ ReadWords reader (now (text .entry)) (now (token .entry)) (now (buffer .entry)) (now (out .exit))
+        (now (buffer .exit)) ⌝ }
 {
     *out = c_read_words::reading_words(read_call::read(
         text,

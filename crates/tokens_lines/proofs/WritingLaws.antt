@@ -25,7 +25,8 @@ added-counts {e = e} {end = end} a =
     (h, sym (length-take-le end e h))
 
 -- the figures of a number, and a byte after them
-pub number-added : {d e : List ℕ} {to end : ℕ} (figures : List ℕ) (k n b : ℕ) → Fewest 10 1 n k → take k figures ≡ digits 10 k n
+pub number-added : {d e : List ℕ} {to end : ℕ} (figures : List ℕ) (k n b : ℕ) → Fewest 10 1 n k
+    → take k figures ≡ digits 10 k n
     → Added d e to (take k figures) end → end < length d
     → Added d (set e end b) to (decimal n ++ (b ∷ [])) (end + 1) × (n < small → end + 1 ≤ to + longestSmall)
 number-added figures k n b f q a l =

@@ -82,7 +82,8 @@ module _ {text out : List ℕ} {end at count : ℕ} (small : length text ≤ lon
       }
 
   -- the last line behind the others
-  last-behind : {new w w′ : List ℕ} {m : ℕ} → Added out new end w m → w ≡ w′ → take m new ≡ header ++ (lines 0 (p .tokens) ++ w′)
+  last-behind : {new w w′ : List ℕ} {m : ℕ} → Added out new end w m → w ≡ w′
+      → take m new ≡ header ++ (lines 0 (p .tokens) ++ w′)
   last-behind {w = w} a e =
       front-then (p .front) a .is ∙ append-assoc header (lines 0 (p .tokens)) w
       ∙ ap (λ (x : List ℕ). header ++ (lines 0 (p .tokens) ++ x)) e
@@ -112,7 +113,8 @@ pub output-long : {text d e : List ℕ} {m n : ℕ} → longest < length text �
     → Output text (take n e)
 output-long {text} h f a = subst (Output text) (sym (front-then f a .is)) (Output.too-long h)
 
-pub output-rejected : {text d e : List ℕ} {m n p : ℕ} {q : Refusal} → length text ≤ longest → Rejected text 0 q p → Front d header m
+pub output-rejected : {text d e : List ℕ} {m n p : ℕ} {q : Refusal} → length text ≤ longest → Rejected text 0 q p
+    → Front d header m
     → Added d e m (lastLine (bytes "error ") (number q .0) p) n → Output text (take n e)
 output-rejected {text} h t f a = subst (Output text) (sym (front-then f a .is)) (Output.rejected h t)
 
@@ -127,7 +129,8 @@ whole-or-fault {f = f} d e l =
     differ (cc)
 
 -- two divisions that end at a fault have the same tokens and the same fault
-fault-one : {text rest rest′ : List ℕ} {ts us : List Piece} {f g : Fault} → Divided plain text ts rest → Lexed plain rest (answer.Fault f)
+fault-one : {text rest rest′ : List ℕ} {ts us : List Piece} {f g : Fault} → Divided plain text ts rest
+    → Lexed plain rest (answer.Fault f)
     → Divided plain text us rest′ → Lexed plain rest′ (answer.Fault g) → (ts ≡ us) × (f ≡ g)
 fault-one {g = g} d l e k =
     let z = ended-one d (ended-fault l) e (ended-fault k) in

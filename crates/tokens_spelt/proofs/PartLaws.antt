@@ -26,7 +26,8 @@ spells-nothing : Spells nothing []
 spells-nothing = record { within = omega arith; is = refl }
 
 -- a word, copied
-pub word-added : {d e : List ℕ} {to : ℕ} (w : Span) → w .start + w .len ≤ length words → Put d e to (take (w .len) (drop (w .start) words))
+pub word-added : {d e : List ℕ} {to : ℕ} (w : Span) → w .start + w .len ≤ length words
+    → Put d e to (take (w .len) (drop (w .start) words))
     → ((v : List ℕ) → Spells w v → Added d e to v (to + w .len)) × (to + w .len ≡ to + w .len)
 word-added {d} {e} {to} w h p = (λ v s. added-same (s .is) (copied d e to words (w .start) (w .len) h p), refl)
 

@@ -31,7 +31,8 @@ table-leading : All (λ row. leading row ≡ true) table
 unfolding table
 table-leading = (refl, (refl, (refl, (refl, (refl, (refl, (refl, (refl, (refl, tt)))))))))
 
-fits-trailing : {rs : List Range} {c : List ℕ} → Fits rs c → trailing rs ≡ true → (i : ℕ) → i < length c → Continues (getD c i 0)
+fits-trailing : {rs : List Range} {c : List ℕ} → Fits rs c → trailing rs ≡ true → (i : ℕ) → i < length c
+    → Continues (getD c i 0)
 fits-trailing done e i h = absurd (omega arith)
 fits-trailing (next {lo = lo} {hi = hi} {b = b} l k f) e zero h =
     let p = pick-both (leb 0x80 lo) _ e in
@@ -52,7 +53,8 @@ record Bytes (b : ℕ) (c : List ℕ) : Type 0 where
 char-bytes : (b : ℕ) (c : List ℕ) → Char (b ∷ c) → Bytes b c
 char-bytes b c ch = go (ch .fits) (all-listed (λ row. leading row ≡ true) table table-leading (ch .listed))
   where
-    outer : (lo hi : ℕ) (x : Bool) → leb hi 0x7F ≡ x → pick x true (leb 0xC0 lo) ≡ true → lo ≤ b → b ≤ hi → Continues b → ⊥
+    outer : (lo hi : ℕ) (x : Bool) → leb hi 0x7F ≡ x → pick x true (leb 0xC0 lo) ≡ true → lo ≤ b → b ≤ hi
+        → Continues b → ⊥
     outer lo hi true e p l k q = let y = leb-true hi 0x7F e in omega arith
     outer lo hi false e p l k q = let y = leb-true 0xC0 lo p in omega arith
 
@@ -71,7 +73,8 @@ starts-not b t q g = go g refl
     go (more {c = x ∷ c} ch g) e = let y : x ≡ b = cc in char-bytes x c ch .first (rw y q)
 
 -- where another byte stands, the rest is well formed
-pub starts-at : {s : List ℕ} → WellFormed s → (at : ℕ) → at < length s → (Continues (getD s at 0) → ⊥) → WellFormed (drop at s)
+pub starts-at : {s : List ℕ} → WellFormed s → (at : ℕ) → at < length s → (Continues (getD s at 0) → ⊥)
+    → WellFormed (drop at s)
 starts-at empty at h n = absurd (omega arith)
 starts-at (more {c = c} {t = t} ch g) zero h n = more ch g
 starts-at (more {c = []} {t = t} ch g) (suc at) h n = absurd (char-full ch)

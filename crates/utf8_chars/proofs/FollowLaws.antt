@@ -26,7 +26,8 @@ module _ (s : List ℕ) (i k : ℕ) where
   pub follow-cut : (r : Range) (rs : List Range) → length s ≤ i → follow k (r ∷ rs) (drop i s) ≡ Cut
   follow-cut r rs h = rw (drop-of-length-le s h)
 
-  pub follow-out : (r : Range) (rs : List Range) → i < length s → has r (getD s i 0) ≡ false → follow k (r ∷ rs) (drop i s) ≡ Wrong k
+  pub follow-out : (r : Range) (rs : List Range) → i < length s → has r (getD s i 0) ≡ false
+      → follow k (r ∷ rs) (drop i s) ≡ Wrong k
   follow-out r rs h e = rw (drop-cons s i 0 h, e)
 
   pub follow-in :
@@ -62,7 +63,8 @@ module _ (s : List ℕ) (i : ℕ) (h : i < length s) where
   by-row o e = rw (add-one i, drop-cons s i 0 h, e)
 
   pub front-row :
-      (k lo hi : ℕ) (rs : List Range) → k < length table → getD table k [] ≡ (lo ‥ hi ∷ rs) → lo ≤ getD s i 0 → getD s i 0 ≤ hi
+      (k lo hi : ℕ) (rs : List Range) → k < length table → getD table k [] ≡ (lo ‥ hi ∷ rs) → lo ≤ getD s i 0
+      → getD s i 0 ≤ hi
       → front (drop i s) ≡ follow 1 rs (drop (i + 1) s)
   front-row k lo hi rs l e a b = by-row (some rs) (row-at k lo hi (getD s i 0) rs l e a b)
 

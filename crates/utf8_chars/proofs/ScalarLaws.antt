@@ -13,7 +13,8 @@ module _ (s : List ℕ) (i n : ℕ) (h : i + n ≤ length s) where
   unfolding scalar
   scalar-1 a e p = rw (e, p, drop-cons s i 0 (omega arith))
 
-  pub scalar-2 : (a b : ℕ) → n ≡ 2 → a ≡ getD s i 0 → b ≡ getD s (i + 1) 0 % 0x40 → a % 0x20 * 0x40 + b ≡ scalar (take n (drop i s))
+  pub scalar-2 : (a b : ℕ) → n ≡ 2 → a ≡ getD s i 0 → b ≡ getD s (i + 1) 0 % 0x40
+      → a % 0x20 * 0x40 + b ≡ scalar (take n (drop i s))
   unfolding scalar
   scalar-2 a b e p q = rw (e, p, q, drop-cons s i 0 (omega arith), drop-cons s (suc i) 0 (omega arith), add-one i)
 
@@ -28,7 +29,8 @@ module _ (s : List ℕ) (i n : ℕ) (h : i + n ≤ length s) where
       rw (e, p, q, r, d₀, d₁, d₂, add-one i, add-two i)
 
   pub scalar-4 :
-      (a b c d : ℕ) → 4 ≤ n → a ≡ getD s i 0 → b ≡ getD s (i + 1) 0 % 0x40 → c ≡ getD s (i + 2) 0 % 0x40 → d ≡ getD s (i + 3) 0 % 0x40
+      (a b c d : ℕ) → 4 ≤ n → a ≡ getD s i 0 → b ≡ getD s (i + 1) 0 % 0x40 → c ≡ getD s (i + 2) 0 % 0x40
+      → d ≡ getD s (i + 3) 0 % 0x40
       → a % 0x08 * 0x40000 + b * 0x1000 + c * 0x40 + d ≡ scalar (take n (drop i s))
   unfolding scalar
   scalar-4 a b c d e p q r t =

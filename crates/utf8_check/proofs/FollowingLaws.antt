@@ -22,8 +22,10 @@ or-none a b p q = omega (arith, or-add-and a b)
 
 module _ (r q p b a₁ a₂ a₃ : ℕ) (e₁ : a₁ ≡ p - 0xBF) (e₂ : a₂ ≡ q - 0xDF) (e₃ : a₃ ≡ r - 0xEF) where
   pub follows-by :
-      (m l x g y z : ℕ) → (m ≡ 0 → Placed (bitOr (bitOr a₁ a₂) a₃) b) → (p ≡ 0xE0 → 0xA0 ≤ l) × (p ≡ 0xF0 → 0x90 ≤ l) → x ≡ l - b
-      → (p ≡ 0xED → g ≤ 0x9F) × (p ≡ 0xF4 → g ≤ 0x8F) → y ≡ b - g → (z ≡ 0 → 0xC0 ≤ b → (0xC2 ≤ b) × (b ≤ 0xF4))
+      (m l x g y z : ℕ) → (m ≡ 0 → Placed (bitOr (bitOr a₁ a₂) a₃) b)
+      → (p ≡ 0xE0 → 0xA0 ≤ l) × (p ≡ 0xF0 → 0x90 ≤ l) → x ≡ l - b
+      → (p ≡ 0xED → g ≤ 0x9F) × (p ≡ 0xF4 → g ≤ 0x8F) → y ≡ b - g
+      → (z ≡ 0 → 0xC0 ≤ b → (0xC2 ≤ b) × (b ≤ 0xF4))
       → bitOr (bitOr (bitOr m x) y) z ≡ 0 → Follows r q p b
   follows-by m l x g y z placed low lx high gy used e =
       let o₁ = or-zero (bitOr (bitOr m x) y) z e in
@@ -34,7 +36,8 @@ module _ (r q p b a₁ a₂ a₃ : ℕ) (e₁ : a₁ ≡ p - 0xBF) (e₂ : a₂ 
         second = λ h. w .asked (asks (λ t. omega arith));
         third = λ h. w .asked (asks (λ t. omega arith));
         fourth = λ h. w .asked (asks (λ t. omega arith));
-        first = λ h₁ h₂ h₃. w .unasked (or-none (bitOr a₁ a₂) a₃ (or-none a₁ a₂ (omega arith) (omega arith)) (omega arith));
+        first =
+            λ h₁ h₂ h₃. w .unasked (or-none (bitOr a₁ a₂) a₃ (or-none a₁ a₂ (omega arith) (omega arith)) (omega arith));
         used = used (o₁ .1);
         ranged =
             record {
@@ -64,7 +67,8 @@ begins-by a b c x y z f g h e =
 
 -- a turn of a loop that joins such numbers
 pub each-more :
-    (P : ℕ → Type 0) (from to all x : ℕ) → (all ≡ 0 → (m : ℕ) → from ≤ m → m < to → P m) → (x ≡ 0 → P to) → bitOr all x ≡ 0
+    (P : ℕ → Type 0) (from to all x : ℕ) → (all ≡ 0 → (m : ℕ) → from ≤ m → m < to → P m) → (x ≡ 0 → P to)
+    → bitOr all x ≡ 0
     → (m : ℕ) → from ≤ m → m < to + 1 → P m
 each-more P from to all x before here e m h k =
     let o = or-zero all x e in

@@ -26,9 +26,11 @@ char-2 a b l h k = char-of a (0x80 ‥ 0xBF ∷ []) (b ∷ []) (row-at 1 0xC2 0x
 
 module _ (a b : ℕ) (rs : List Range) (t : List ℕ) (f : Fits rs t) where
   by-row :
-      (i lo hi l u : ℕ) → i < length table → getD table i [] ≡ (lo ‥ hi ∷ l ‥ u ∷ rs) → lo ≤ a → a ≤ hi → l ≤ b → b ≤ u
+      (i lo hi l u : ℕ) → i < length table → getD table i [] ≡ (lo ‥ hi ∷ l ‥ u ∷ rs) → lo ≤ a → a ≤ hi
+      → l ≤ b → b ≤ u
       → Char (a ∷ b ∷ t)
-  by-row i lo hi l u h e h₁ h₂ h₃ h₄ = char-of a (l ‥ u ∷ rs) (b ∷ t) (row-at i lo hi a (l ‥ u ∷ rs) h e h₁ h₂) (next h₃ h₄ f)
+  by-row i lo hi l u h e h₁ h₂ h₃ h₄ =
+      char-of a (l ‥ u ∷ rs) (b ∷ t) (row-at i lo hi a (l ‥ u ∷ rs) h e h₁ h₂) (next h₃ h₄ f)
 
 pub char-3 : (a b c : ℕ) → 0xE0 ≤ a → a < 0xF0 → Continues b → Second a b → Continues c → Char (a ∷ b ∷ c ∷ [])
 unfolding table
@@ -40,7 +42,8 @@ char-3 a b c l h k z m =
     row 5 0xEE 0xEF 0x80 0xBF (omega arith) refl w (omega arith) (omega arith) (omega arith))
     (below a 0xEE)) (below a 0xED)) (below a 0xE1)
 
-pub char-4 : (a b c d : ℕ) → 0xF0 ≤ a → a ≤ 0xF4 → Continues b → Second a b → Continues c → Continues d → Char (a ∷ b ∷ c ∷ d ∷ [])
+pub char-4 : (a b c d : ℕ) → 0xF0 ≤ a → a ≤ 0xF4 → Continues b → Second a b → Continues c → Continues d
+    → Char (a ∷ b ∷ c ∷ d ∷ [])
 unfolding table
 char-4 a b c d l h k z m n =
     let row = by-row a b (0x80 ‥ 0xBF ∷ 0x80 ‥ 0xBF ∷ []) (c ∷ d ∷ []) (trail c m (trail d n done)) in
@@ -57,7 +60,8 @@ module _ (s : List ℕ) (i : ℕ) where
       → scan (i + length c) 0 (drop (i + length c) s) ≡ scan i 0 (drop i s)
   passes c ch h l e = sym (scan-whole s i (omega arith) (length c) (ap front e ∙ char-front c (drop (i + length c) s) ch))
 
-  pub pass-2 : i + 2 ≤ length s → Char (getD s i 0 ∷ getD s (i + 1) 0 ∷ []) → scan (i + 2) 0 (drop (i + 2) s) ≡ scan i 0 (drop i s)
+  pub pass-2 : i + 2 ≤ length s → Char (getD s i 0 ∷ getD s (i + 1) 0 ∷ [])
+      → scan (i + 2) 0 (drop (i + 2) s) ≡ scan i 0 (drop i s)
   pass-2 h ch =
       passes (getD s i 0 ∷ getD s (i + 1) 0 ∷ []) ch h (omega arith)
       (rw (drop-cons s i 0 (omega arith), drop-cons s (suc i) 0 (omega arith), add-one i, add-two i))

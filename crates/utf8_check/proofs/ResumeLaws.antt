@@ -19,7 +19,8 @@ use Rattle.utf8_check.proofs.PassLaws.{char-2, char-3, char-4, pass-2, 
 data Begun (s : List ℕ) (i : ℕ) : ℕ → ℕ → ℕ → ℕ → Type 0 where
   none : {r q p : ℕ} → p < 0xC0 → q < 0xE0 → r < 0xF0 → Begun s i 0 r q p
   one : {r q p : ℕ} → getD s i 0 ≡ p → 0xC2 ≤ p → p ≤ 0xF4 → q < 0xC0 → Begun s i 1 r q p
-  two : {r q p : ℕ} → getD s i 0 ≡ q → getD s (i + 1) 0 ≡ p → 0xE0 ≤ q → q ≤ 0xF4 → Continues p → Second q p → r < 0xC0 → Begun s i 2 r q p
+  two : {r q p : ℕ} → getD s i 0 ≡ q → getD s (i + 1) 0 ≡ p → 0xE0 ≤ q → q ≤ 0xF4 → Continues p → Second q p
+      → r < 0xC0 → Begun s i 2 r q p
   three :
       {r q p : ℕ} → getD s i 0 ≡ r → getD s (i + 1) 0 ≡ q → getD s (i + 2) 0 ≡ p
       → 0xF0 ≤ r → r ≤ 0xF4 → Continues q → Second r q → Continues p
@@ -43,7 +44,8 @@ module _ (s : List ℕ) (i : ℕ) (g : scan i 0 (drop i s) ≡ checked s) where
   longer : (k e r q p : ℕ) → i + k ≡ e → Begun s i k r q p → State s e r q p
   longer k e r q p h o = record { i = i; k = k; here = h; begun = o; same = g }
 
-  from-none : (r q p : ℕ) → p < 0xC0 → q < 0xE0 → r < 0xF0 → i < length s → Follows r q p (getD s i 0) → State s (i + 1) q p (getD s i 0)
+  from-none : (r q p : ℕ) → p < 0xC0 → q < 0xE0 → r < 0xF0 → i < length s → Follows r q p (getD s i 0)
+      → State s (i + 1) q p (getD s i 0)
   from-none r q p h₁ h₂ h₃ l f =
       let b = getD s i 0 in
       ⊎-elim (λ x. ended 1 (i + 1) q p b refl (sym (scan-ascii s i l x)) (omega arith) (omega arith) (omega arith)) (λ x.

@@ -14,7 +14,8 @@ use Rattle.wat.proofs.Utf8Laws.{char-front, scan-skip, checked-says}
 use Rattle.wat.proofs.Scalars.{ascii}
 use Rattle.utf8_chars.proofs.DecodeLaws.{front-char}
 
-scan-here : (s : List ℕ) (i : ℕ) → i < length s → scan i 0 (drop i s) ≡ verdict i (front (drop i s)) (λ k. scan (suc i) k (drop (suc i) s))
+scan-here : (s : List ℕ) (i : ℕ) → i < length s
+    → scan i 0 (drop i s) ≡ verdict i (front (drop i s)) (λ k. scan (suc i) k (drop (suc i) s))
 unfolding scan
 scan-here s i h = rw (drop-cons s i 0 h)
 

@@ -64,7 +64,8 @@ abbrev pub AllPairs : (ℕ → ℕ → Type 0) → List (ℕ × ℕ) → Type 0
 AllPairs P [] = Unit {0}
 AllPairs P (p ∷ t) = P (p .0) (p .1) × AllPairs P t
 
-pub pairs-listed : (P : ℕ → ℕ → Type 0) (t : List (ℕ × ℕ)) {p : ℕ × ℕ} → AllPairs P t → List·Memᴰ p t → P (p .0) (p .1)
+pub pairs-listed : (P : ℕ → ℕ → Type 0) (t : List (ℕ × ℕ)) {p : ℕ × ℕ} → AllPairs P t → List·Memᴰ p t
+    → P (p .0) (p .1)
 pairs-listed P [] a m = absurd (List·Memᴰ·not-nil m)
 pairs-listed P (r ∷ t) a m = ⊎-elim (λ e. rw e (a .0)) (λ m′. pairs-listed P t (a .1) m′) (List·Memᴰ·cases-cons m)
 

@@ -1,4 +1,5 @@
--- The classes of bytes and characters in other words: each rule is shown over all of its range by one test that antt computes. Assumes nothing.
+-- The classes of bytes and characters in other words: each rule is shown over all of its range by one test that antt
+-- computes. Assumes nothing.
 use Prim.Native.Nat.{ℕ, zero, suc, _+_, _≤_, _<_}
 use mathlib.Core.Path.{_≡_, refl, sym, _∙_}
 use mathlib.Core.Logic.{_⊎_, inl, inr, ⊎-elim}
@@ -31,7 +32,8 @@ passed : (f : ℕ → Bool) (from n : ℕ) → passes f from n ≡ true → (x :
 passed f from zero e x h k = absurd (omega arith)
 passed f from (suc n) e x h k = go (f from) refl e (λ q. passed f (suc from) n q x)
   where
-    go : (b : Bool) → f from ≡ b → b && passes f (suc from) n ≡ true → (passes f (suc from) n ≡ true → suc from ≤ x → x < suc from + n → f x ≡ true) → f x ≡ true
+    go : (b : Bool) → f from ≡ b → b && passes f (suc from) n ≡ true
+        → (passes f (suc from) n ≡ true → suc from ≤ x → x < suc from + n → f x ≡ true) → f x ≡ true
     go true p e ih = ⊎-elim (λ l. let q : x ≡ from = omega arith in rw q p) (λ l. ih e l (omega arith)) (below x (suc from))
     go false p e ih = absurd (never e refl)
 
@@ -56,7 +58,9 @@ pub idchar-printable : (x : ℕ) → idchar x ≡ printable x
 idchar-printable x = ⊎-elim low high (below x 0x80)
   where
     low : x < 0x80 → idchar x ≡ printable x
-    low h = same-true (idchar x) (printable x) (passed (λ x. same (idchar x) (printable x)) 0 0x80 idchars-tested x (omega arith) (omega arith))
+    low h =
+        same-true (idchar x) (printable x)
+        (passed (λ x. same (idchar x) (printable x)) 0 0x80 idchars-tested x (omega arith) (omega arith))
 
     high : 0x80 ≤ x → idchar x ≡ printable x
     high h = false-of idchar x (λ e. let l = idchar-ascii x e in omega arith) ∙ sym (printable-ascii x h)
@@ -77,8 +81,20 @@ outside x h = go (eqb x 0x202C) refl
     go : (b : Bool) → eqb x 0x202C ≡ b → turning x ≡ false
     go true e = rw (e, turning)
     go false e =
-        ⊎-elim (λ l. rw (e, turning, between-under 0x202A 0x202E x (omega arith), between-under 0x2066 0x2069 x (omega arith), ne-eqb x 0x206C (omega arith)))
-        (λ l. rw (e, turning, between-over 0x202A 0x202E x (omega arith), between-over 0x2066 0x2069 x (omega arith), ne-eqb x 0x206C (omega arith)))
+        ⊎-elim (λ l. rw (
+          e,
+          turning,
+          between-under 0x202A 0x202E x (omega arith),
+          between-under 0x2066 0x2069 x (omega arith),
+          ne-eqb x 0x206C (omega arith),
+        ))
+        (λ l. rw (
+          e,
+          turning,
+          between-over 0x202A 0x202E x (omega arith),
+          between-over 0x2066 0x2069 x (omega arith),
+          ne-eqb x 0x206C (omega arith),
+        ))
         h
 
 pub confusing-turning : (x : ℕ) → confusing x ≡ turning x
@@ -86,7 +102,11 @@ unfolding confusing
 confusing-turning x = ⊎-elim (λ l. out (inl l)) (λ l. ⊎-elim (λ m. into l m) (λ m. out (inr m)) (below x 0x2080)) (below x 0x2000)
   where
     into : 0x2000 ≤ x → x < 0x2080 → confusing x ≡ turning x
-    into l m = same-true (confusing x) (turning x) (passed (λ x. same (confusing x) (turning x)) 0x2000 0x80 confusing-tested x l (omega arith))
+    into l m =
+        same-true (confusing x) (turning x) (passed (λ x. same (confusing x) (turning x)) 0x2000 0x80 confusing-tested x l (omega arith))
 
     out : (x < 0x2000) ⊎ (0x2080 ≤ x) → confusing x ≡ turning x
-    out h = false-of confusing x (λ e. let r : (0x202A ≤ x) × (x ≤ 0x206C) = has-every (λ y. (0x202A ≤ y) × (y ≤ 0x206C)) _ x (omega arith) e in ⊎-elim (λ l. omega arith) (λ l. omega arith) h) ∙ sym (outside x h)
+    out h =
+        false-of confusing x (λ e. let r : (0x202A ≤ x) × (x ≤ 0x206C) =
+        has-every (λ y. (0x202A ≤ y) × (y ≤ 0x206C)) _ x (omega arith) e in ⊎-elim (λ l. omega arith) (λ l. omega arith) h)
+        ∙ sym (outside x h)

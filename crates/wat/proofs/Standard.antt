@@ -1,4 +1,5 @@
--- The standard's own forms, where ours are shaped otherwise: comments by characters, and string elements one by one. The two say the same. Assumes nothing.
+-- The standard's own forms, where ours are shaped otherwise: comments by characters, and string elements one by one.
+-- The two say the same. Assumes nothing.
 use Prim.Native.Nat.{ℕ, zero, suc, _+_, _*_, _≤_, _<_}
 use mathlib.Core.Path.{_≡_, refl, sym, ap, _∙_, subst}
 use mathlib.Core.Logic.{⊎-elim}
@@ -28,7 +29,8 @@ begins-ascii : (x : ℕ) (c : List ℕ) → x < 0x80 → Char (x ∷ c) → c �
 begins-ascii x c h ch = sym (chars-meet (x ∷ c) (x ∷ []) [] c ch (ascii x h) (append-nil (x ∷ c)) .1)
 
 -- a test for ASCII bytes that fails at the scalar value fails at each byte
-each-byte : (f : ℕ → Bool) → ((x : ℕ) → 0x80 ≤ x → f x ≡ false) → (c : List ℕ) → Char c → f (scalar c) ≡ false → Each f false c
+each-byte : (f : ℕ → Bool) → ((x : ℕ) → 0x80 ≤ x → f x ≡ false) → (c : List ℕ) → Char c
+    → f (scalar c) ≡ false → Each f false c
 unfolding scalar
 each-byte f high [] ch e = Each.none
 each-byte f high (x ∷ c) ch e = ⊎-elim low (λ h. Each.next (high x h) (all (char-high ch))) (below x 0x80)
@@ -90,7 +92,8 @@ standard-line l = LineComment.line (go l)
 -- blockchar* `;)`: characters, where `;` and `(` look ahead
 pub data Blockchars : List ℕ → Type 0 where
   close : Blockchars (bytes ";)")
-  char : {c t : List ℕ} → Char c → (scalar c ≡ byte ";" → ⊥) → (scalar c ≡ byte "(" → ⊥) → Blockchars t → Blockchars (c ++ t)
+  char : {c t : List ℕ} → Char c → (scalar c ≡ byte ";" → ⊥) → (scalar c ≡ byte "(" → ⊥) → Blockchars t
+      → Blockchars (c ++ t)
   semicolon : {t : List ℕ} → ((v : List ℕ) → t ≡ byte ")" ∷ v → ⊥) → Blockchars t → Blockchars (byte ";" ∷ t)
   paren : {t : List ℕ} → ((v : List ℕ) → t ≡ byte ";" ∷ v → ⊥) → Blockchars t → Blockchars (byte "(" ∷ t)
   nested : {u t : List ℕ} → Blockchars u → Blockchars t → Blockchars (bytes "(;" ++ (u ++ t))
@@ -105,16 +108,20 @@ marks-not n p q = rw (ne-eqb n 0x3B p, ne-eqb n 0x28 q)
 others : {c t : List ℕ} → Each marks false c → Block t → Block (c ++ t)
 unfolding marks
 others Each.none b = b
-others (Each.next {x = x} e r) b = Block.other (λ (q : x ≡ 0x3B). never {x = marks 0x3B} refl (rw q at e)) (λ (q : x ≡ 0x28). never {x = marks 0x28} refl (rw q at e)) (others r b)
+others (Each.next {x = x} e r) b =
+    Block.other (λ (q : x ≡ 0x3B). never {x = marks 0x3B} refl (rw q at e))
+    (λ (q : x ≡ 0x28). never {x = marks 0x28} refl (rw q at e)) (others r b)
 
 -- what follows a look-ahead
-ahead : (t : List ℕ) (b x : ℕ) → ((v : List ℕ) → t ≡ b ∷ v → ⊥) → ((y : ℕ) (u : List ℕ) → (y ≡ b → ⊥) → Block (y ∷ u) → Block (x ∷ y ∷ u)) → Block t → Block (x ∷ t)
+ahead : (t : List ℕ) (b x : ℕ) → ((v : List ℕ) → t ≡ b ∷ v → ⊥)
+    → ((y : ℕ) (u : List ℕ) → (y ≡ b → ⊥) → Block (y ∷ u) → Block (x ∷ y ∷ u)) → Block t → Block (x ∷ t)
 ahead [] b x n f r = absurd (block-some r refl)
 ahead (y ∷ u) b x n f r = f y u (λ e. n u (ap (λ (z : ℕ). z ∷ u) e)) r
 
 pub standard-block : {t : List ℕ} → Blockchars t → Block t
 standard-block Blockchars.close = Block.close
-standard-block (Blockchars.char {c = c} ch p q r) = others (each-byte marks (λ x h. marks-not x (omega arith) (omega arith)) c ch (marks-not (scalar c) p q)) (standard-block r)
+standard-block (Blockchars.char {c = c} ch p q r) =
+    others (each-byte marks (λ x h. marks-not x (omega arith) (omega arith)) c ch (marks-not (scalar c) p q)) (standard-block r)
 standard-block (Blockchars.semicolon n r) = ahead _ 0x29 0x3B n (λ y u p b. Block.semicolon p b) (standard-block r)
 standard-block (Blockchars.paren n r) = ahead _ 0x3B 0x28 n (λ y u p b. Block.paren p b) (standard-block r)
 standard-block (Blockchars.nested a b) = Block.nested (standard-block a) (standard-block b)
@@ -134,7 +141,8 @@ onward y r (High.next k h) (Block.nested a b) e = absurd (omega (arith, ap (λ (
 after-block : {u : List ℕ} (r : List ℕ) → Block u → WellFormed (u ++ r) → WellFormed r
 after-block {u} r b w =
     let l = last-block b in
-    let e : u ++ r ≡ l .front ++ (l .byte ∷ r) = ap (λ (z : List ℕ). z ++ r) (l .seam) ∙ append-assoc (l .front) (l .byte ∷ []) r in
+    let e : u ++ r ≡ l .front ++ (l .byte ∷ r) =
+    ap (λ (z : List ℕ). z ++ r) (l .seam) ∙ append-assoc (l .front) (l .byte ∷ []) r in
     after-ascii (l .byte) r (l .low) (cut w (l .front) (l .byte) r e (l .low) .1)
 
 -- in at most n bytes
@@ -152,21 +160,27 @@ blockchars (suc n) r h w (Block.other {x = x} {t = t} p q b) = go w refl (λ v i
         let i : z ≡ x = ap (λ (l : List ℕ). getD l 0 0) e in
         let o = onward y r (char-high ch) b (sym (ap (drop 1) e)) in
         let j : y ≡ o .0 ++ r = cut-off c (ap (drop 1) e ∙ ap (λ (l : List ℕ). l ++ r) (o .1) ∙ append-assoc c (o .0) r) in
-        let is : (d : ℕ) → scalar (z ∷ c) ≡ d → d < 0x80 → x ≡ d = λ d k l. sym i ∙ ap (λ (l : List ℕ). getD l 0 0) (alone-at (z ∷ c) d ch k l) in
+        let is : (d : ℕ) → scalar (z ∷ c) ≡ d → d < 0x80 → x ≡ d =
+        λ d k l. sym i ∙ ap (λ (l : List ℕ). getD l 0 0) (alone-at (z ∷ c) d ch k l) in
         let m : length (o .0) < n = omega (arith, ap length (o .1), length-append c (o .0)) in
-        let f : Blockchars ((z ∷ c) ++ o .0) = Blockchars.char ch (λ k. p (is 0x3B k (omega arith))) (λ k. q (is 0x28 k (omega arith))) (ih (o .0) m (rw j at g) (o .2)) in
+        let f : Blockchars ((z ∷ c) ++ o .0) =
+        Blockchars.char ch (λ k. p (is 0x3B k (omega arith))) (λ k. q (is 0x28 k (omega arith))) (ih (o .0) m (rw j at g) (o .2)) in
         subst Blockchars (cc (i, o .1)) f
 
     go : {s : List ℕ} → WellFormed s → s ≡ x ∷ (t ++ r) → Next → Blockchars (x ∷ t)
     go WellFormed.empty e ih = differ (cc)
     go (WellFormed.more {c = c} {t = y} ch g) e ih = char c y ch g e ih
 blockchars (suc n) r h w (Block.semicolon {x = x} {t = t} k b) =
-    Blockchars.semicolon (λ v e. k (ap (λ (l : List ℕ). getD l 0 0) e)) (blockchars n r (omega arith) (after-ascii 0x3B (x ∷ (t ++ r)) (omega arith) w) b)
+    Blockchars.semicolon (λ v e. k (ap (λ (l : List ℕ). getD l 0 0) e))
+    (blockchars n r (omega arith) (after-ascii 0x3B (x ∷ (t ++ r)) (omega arith) w) b)
 blockchars (suc n) r h w (Block.paren {x = x} {t = t} k b) =
-    Blockchars.paren (λ v e. k (ap (λ (l : List ℕ). getD l 0 0) e)) (blockchars n r (omega arith) (after-ascii 0x28 (x ∷ (t ++ r)) (omega arith) w) b)
+    Blockchars.paren (λ v e. k (ap (λ (l : List ℕ). getD l 0 0) e))
+    (blockchars n r (omega arith) (after-ascii 0x28 (x ∷ (t ++ r)) (omega arith) w) b)
 blockchars (suc n) r h w (Block.nested {u = u} {t = t} a b) =
-    let g : WellFormed (u ++ (t ++ r)) = rw append-assoc at (after-ascii 0x3B ((u ++ t) ++ r) (omega arith) (after-ascii 0x28 (0x3B ∷ ((u ++ t) ++ r)) (omega arith) w)) in
-    Blockchars.nested (blockchars n (t ++ r) (omega (arith, length-append u t)) g a) (blockchars n r (omega (arith, length-append u t)) (after-block (t ++ r) a g) b)
+    let g : WellFormed (u ++ (t ++ r)) =
+    rw append-assoc at (after-ascii 0x3B ((u ++ t) ++ r) (omega arith) (after-ascii 0x28 (0x3B ∷ ((u ++ t) ++ r)) (omega arith) w)) in
+    Blockchars.nested (blockchars n (t ++ r) (omega (arith, length-append u t)) g a)
+    (blockchars n r (omega (arith, length-append u t)) (after-block (t ++ r) a g) b)
 
 pub block-standard : {u : List ℕ} (r : List ℕ) → WellFormed (u ++ r) → Block u → Blockchars u
 block-standard {u} r w b = blockchars (suc (length u)) r (omega arith) w b
@@ -181,7 +195,8 @@ pub data Hexnum : List ℕ → ℕ → Type 0 where
 
 -- stringchar, and its UTF-8
 pub data Stringchar : List ℕ → List ℕ → Type 0 where
-  raw : {c : List ℕ} → Char c → 0x20 ≤ scalar c → (scalar c ≡ 0x7F → ⊥) → (scalar c ≡ byte "\"" → ⊥) → (scalar c ≡ byte "\\" → ⊥) → Stringchar c c
+  raw : {c : List ℕ} → Char c → 0x20 ≤ scalar c → (scalar c ≡ 0x7F → ⊥) → (scalar c ≡ byte "\"" → ⊥)
+      → (scalar c ≡ byte "\\" → ⊥) → Stringchar c c
   tab : Stringchar (bytes "\\t") (0x09 ∷ [])
   line-feed : Stringchar (bytes "\\n") (0x0A ∷ [])
   return : Stringchar (bytes "\\r") (0x0D ∷ [])
@@ -211,9 +226,13 @@ standard-element (Stringelem.char (Stringchar.raw {c = c} ch h k p q)) = Elem.ra
 standard-element (Stringelem.char Stringchar.tab) = Elem.letter (List·Memᴰ·head refl)
 standard-element (Stringelem.char Stringchar.line-feed) = Elem.letter (List·Memᴰ·tail (List·Memᴰ·head refl))
 standard-element (Stringelem.char Stringchar.return) = Elem.letter (List·Memᴰ·tail (List·Memᴰ·tail (List·Memᴰ·head refl)))
-standard-element (Stringelem.char Stringchar.quotation) = Elem.letter (List·Memᴰ·tail (List·Memᴰ·tail (List·Memᴰ·tail (List·Memᴰ·head refl))))
-standard-element (Stringelem.char Stringchar.apostrophe) = Elem.letter (List·Memᴰ·tail (List·Memᴰ·tail (List·Memᴰ·tail (List·Memᴰ·tail (List·Memᴰ·head refl)))))
-standard-element (Stringelem.char Stringchar.backslash) = Elem.letter (List·Memᴰ·tail (List·Memᴰ·tail (List·Memᴰ·tail (List·Memᴰ·tail (List·Memᴰ·tail (List·Memᴰ·head refl))))))
+standard-element (Stringelem.char Stringchar.quotation) =
+    Elem.letter (List·Memᴰ·tail (List·Memᴰ·tail (List·Memᴰ·tail (List·Memᴰ·head refl))))
+standard-element (Stringelem.char Stringchar.apostrophe) =
+    Elem.letter (List·Memᴰ·tail (List·Memᴰ·tail (List·Memᴰ·tail (List·Memᴰ·tail (List·Memᴰ·head refl)))))
+standard-element (Stringelem.char Stringchar.backslash) =
+    Elem.letter (List·Memᴰ·tail
+    (List·Memᴰ·tail (List·Memᴰ·tail (List·Memᴰ·tail (List·Memᴰ·tail (List·Memᴰ·head refl))))))
 standard-element (Stringelem.char (Stringchar.unicode r ch)) = Elem.unicode (hexnum-ours r) ch
 standard-element (Stringelem.pair h l) = Elem.pair h l
 
@@ -236,7 +255,16 @@ ours-hexnum (HexNum.more (suc (suc k)) r h) s = absurd (omega (arith, s .0))
 
 lettered : AllPairs (λ e v. Stringelem (0x5C ∷ e ∷ []) (v ∷ [])) escapes
 unfolding escapes
-lettered = (Stringelem.char Stringchar.tab, (Stringelem.char Stringchar.line-feed, (Stringelem.char Stringchar.return, (Stringelem.char Stringchar.quotation, (Stringelem.char Stringchar.apostrophe, (Stringelem.char Stringchar.backslash, tt))))))
+lettered = (
+  Stringelem.char Stringchar.tab,
+  (
+    Stringelem.char Stringchar.line-feed,
+    (
+      Stringelem.char Stringchar.return,
+      (Stringelem.char Stringchar.quotation, (Stringelem.char Stringchar.apostrophe, (Stringelem.char Stringchar.backslash, tt))),
+    ),
+  ),
+)
 
 from-space : (n : ℕ) → control n ≡ false → (0x20 ≤ n) × (n ≡ 0x7F → ⊥)
 unfolding control

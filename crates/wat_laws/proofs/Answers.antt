@@ -42,37 +42,49 @@ lexed-is {σ} w a = lexed-one a (lexed σ w)
 -- ---- runs of accepted texts
 
 -- where a token is a run, it is one under the settings, and no run goes on behind it
-accepted-run : {σ : Settings} {k : TokenKind} {n : ℕ} (x : ℕ) (t : List ℕ) → family x ≡ run → WellFormed (x ∷ t) → Longest (x ∷ t) k n → ((f : Fault) → Fails σ (x ∷ t) f → ⊥)
+accepted-run : {σ : Settings} {k : TokenKind} {n : ℕ} (x : ℕ) (t : List ℕ) → family x ≡ run → WellFormed (x ∷ t)
+    → Longest (x ∷ t) k n → ((f : Fault) → Fails σ (x ∷ t) f → ⊥)
     → (w : List ℕ) × (u : List ℕ) × (x ∷ t ≡ w ++ u) × Run σ w × Stopped u × (n ≡ length w)
 accepted-run {σ} {k} {n} x t f g l nf = go (walks (suc (length (x ∷ t))) (x ∷ t) (omega arith) g)
   where
-    go : {y : RunEnd} → Walks σ (x ∷ t) y → (w : List ℕ) × (u : List ℕ) × (x ∷ t ≡ w ++ u) × Run σ w × Stopped u × (n ≡ length w)
+    go : {y : RunEnd} → Walks σ (x ∷ t) y
+        → (w : List ℕ) × (u : List ℕ) × (x ∷ t ≡ w ++ u) × Run σ w × Stopped u × (n ≡ length w)
     go (is-run {w = w} u q r z m) = (w, u, q, r, z, longest-one l (longest-run x t u q (run-lenient r) z f) .1)
-    go (is-bad {w = w} {x = f} q r z i) = absurd (nf (shift (length w) f) (subst (λ (y : List ℕ). Fails σ y (shift (length w) f)) (sym q) (Fails.string r z)))
+    go (is-bad {w = w} {x = f} q r z i) =
+        absurd (nf (shift (length w) f) (subst (λ (y : List ℕ). Fails σ y (shift (length w) f)) (sym q) (Fails.string r z)))
 
 -- ---- (i) what is accepted is accepted under the lenient settings, with the same token
 
-pub lexed-lenient : {σ : Settings} {s : List ℕ} {k : TokenKind} {n : ℕ} → WellFormed s → Lexed σ s (answer.Token k n) → Lexed lenient s (answer.Token k n)
+pub lexed-lenient : {σ : Settings} {s : List ℕ} {k : TokenKind} {n : ℕ} → WellFormed s → Lexed σ s (answer.Token k n)
+    → Lexed lenient s (answer.Token k n)
 lexed-lenient {σ} {s} {k} {n} g (Lexed.token l nf) = Lexed.token l (λ e f. go f refl)
   where
-    strings : {w t : List ℕ} {er : Fault} (s′ : List ℕ) → s′ ≡ s → w ++ t ≡ s → Run lenient w → BadStr lenient t er → ⊥
+    strings : {w t : List ℕ} {er : Fault} (s′ : List ℕ) → s′ ≡ s → w ++ t ≡ s → Run lenient w
+        → BadStr lenient t er → ⊥
     strings [] q h r b = nil-fault (Fails.string r b) (h ∙ sym q)
     strings {w} {t} {er} (x ∷ v) q h r b =
-        let a = accepted-run x v (run-bad-head x v r b (h ∙ sym q)) (rw (sym q) at g) (rw (sym q) at l) (λ er f. nf er (subst (λ (z : List ℕ). Fails σ z er) q f)) in
+        let a =
+        accepted-run x v (run-bad-head x v r b (h ∙ sym q)) (rw (sym q) at g) (rw (sym q) at l)
+        (λ er f. nf er (subst (λ (z : List ℕ). Fails σ z er) q f)) in
         let f = suc (length (a .0) + length w) in
         let y : stops (length (a .0)) ≡ fails (shift (length w) er) =
-        sym (run-stops f (run-lenient (a .3)) (a .4) (omega arith)) ∙ ap (walk lenient f) (sym (a .2) ∙ q ∙ sym h) ∙ run-fails f r b (omega arith) in
+        sym (run-stops f (run-lenient (a .3)) (a .4) (omega arith)) ∙ ap (walk lenient f) (sym (a .2) ∙ q ∙ sym h)
+        ∙ run-fails f r b (omega arith) in
         let z : _≡_ {A = ℕ} 0 1 = cc in omega arith
 
     go : {s′ : List ℕ} {f : Fault} → Fails lenient s′ f → s′ ≡ s → ⊥
-    go (Fails.dangling {t = t} h) q = nf (fault DanglingBlockComment 0 0) (subst (λ (z : List ℕ). Fails σ z (fault DanglingBlockComment 0 0)) q (Fails.dangling h))
-    go (Fails.unexpected {x = x} {c = c} t ch h) q = nf (fault (Unexpected (scalar (x ∷ c))) 0 0) (subst (λ (z : List ℕ). Fails σ z (fault (Unexpected (scalar (x ∷ c))) 0 0)) q (Fails.unexpected t ch h))
+    go (Fails.dangling {t = t} h) q =
+        nf (fault DanglingBlockComment 0 0) (subst (λ (z : List ℕ). Fails σ z (fault DanglingBlockComment 0 0)) q (Fails.dangling h))
+    go (Fails.unexpected {x = x} {c = c} t ch h) q =
+        nf (fault (Unexpected (scalar (x ∷ c))) 0 0)
+        (subst (λ (z : List ℕ). Fails σ z (fault (Unexpected (scalar (x ∷ c))) 0 0)) q (Fails.unexpected t ch h))
     go (Fails.comment t h c l′ pl ch cf i) q = differ (cc)
     go (Fails.string r b) q = strings s refl q r b
 
 -- ---- (j) a token lexes alone
 
-pub lexed-alone : {σ : Settings} {s : List ℕ} {k : TokenKind} {n : ℕ} → WellFormed s → Lexed σ s (answer.Token k n) → Lexed σ (take n s) (answer.Token k n)
+pub lexed-alone : {σ : Settings} {s : List ℕ} {k : TokenKind} {n : ℕ} → WellFormed s → Lexed σ s (answer.Token k n)
+    → Lexed σ (take n s) (answer.Token k n)
 lexed-alone {σ} {s} {k} {n} g (Lexed.token l nf) = Lexed.token alone (λ e f. go f refl)
   where
     long : length (take n s) ≡ n
@@ -84,7 +96,9 @@ lexed-alone {σ} {s} {k} {n} g (Lexed.token l nf) = Lexed.token alone (λ e f. g
     tells : (x : ℕ) (v : List ℕ) (f : Family) → take n s ≡ x ∷ v → family x ≡ f → Told f (take n s)
     tells x v f q e = subst (λ (g : Family). Told g (take n s)) e (told x v (tok-shape (l .is)) q)
 
-    opens : {t : List ℕ} → bytes "(;" ++ t ≡ take n s → ((u v : List ℕ) → bytes "(;" ++ t ≡ u ++ v → BlockComment u → ⊥) → (take n s ≡ bytes "(") ⊎ BlockComment (take n s) → ⊥
+    opens : {t : List ℕ} → bytes "(;" ++ t ≡ take n s
+        → ((u v : List ℕ) → bytes "(;" ++ t ≡ u ++ v → BlockComment u → ⊥)
+        → (take n s ≡ bytes "(") ⊎ BlockComment (take n s) → ⊥
     opens q h (inl e) = differ (cc)
     opens q h (inr b) = h (take n s) [] (q ∙ sym (append-nil (take n s))) b
 
@@ -92,22 +106,28 @@ lexed-alone {σ} {s} {k} {n} g (Lexed.token l nf) = Lexed.token alone (λ e f. g
     strings [] q h r b = nil-fault (Fails.string r b) (h ∙ ap (take n) (sym q) ∙ take-nil n)
     strings {w} {t} {er} (x ∷ v) q h r b =
         let y = heads n (l .is) in
-        let a = accepted-run x v (run-bad-head x (y .0) r b (h ∙ y .1)) (rw (sym q) at g) (rw (sym q) at l) (λ er f. nf er (subst (λ (z : List ℕ). Fails σ z er) q f)) in
+        let a =
+        accepted-run x v (run-bad-head x (y .0) r b (h ∙ y .1)) (rw (sym q) at g) (rw (sym q) at l)
+        (λ er f. nf er (subst (λ (z : List ℕ). Fails σ z er) q f)) in
         let f = suc (length (a .0) + length w) in
-        let c : take n s ≡ a .0 = ap (take n) (sym q ∙ a .2) ∙ ap (λ (i : ℕ). take i (a .0 ++ a .1)) (a .5) ∙ take-append-seam (a .0) (a .1) in
+        let c : take n s ≡ a .0 =
+        ap (take n) (sym q ∙ a .2) ∙ ap (λ (i : ℕ). take i (a .0 ++ a .1)) (a .5) ∙ take-append-seam (a .0) (a .1) in
         let d : a .0 ++ [] ≡ w ++ t = append-nil (a .0) ∙ sym c ∙ sym h in
-        let k : stops (length (a .0)) ≡ fails (shift (length w) er) = sym (run-stops f (a .3) ended (omega arith)) ∙ ap (walk σ f) d ∙ run-fails f r b (omega arith) in
+        let k : stops (length (a .0)) ≡ fails (shift (length w) er) =
+        sym (run-stops f (a .3) ended (omega arith)) ∙ ap (walk σ f) d ∙ run-fails f r b (omega arith) in
         let z : _≡_ {A = ℕ} 0 1 = cc in omega arith
       where
         heads : (n : ℕ) → Tok k (take n s) → (u : List ℕ) × (take n s ≡ x ∷ u)
         heads zero t = absurd (tok-some t refl)
         heads (suc i) t = (take i v, ap (take (suc i)) (sym q))
 
-    confused : {j : TokenKind} {i : ℕ} {p c : List ℕ} (t : List ℕ) → σ .«allow_confusing» ≡ false → Comment j → Longest (p ++ (c ++ t)) j i → Plain p → Char c → confusing (scalar c) ≡ true → length p < i
+    confused : {j : TokenKind} {i : ℕ} {p c : List ℕ} (t : List ℕ) → σ .«allow_confusing» ≡ false → Comment j
+        → Longest (p ++ (c ++ t)) j i → Plain p → Char c → confusing (scalar c) ≡ true → length p < i
         → p ++ (c ++ t) ≡ take n s → ⊥
     confused {j} {i} {p} {c} t h cm m pl ch cf b q =
         let z = longest-one (rw q at m) alone in
-        let e : p ++ (c ++ (t ++ drop n s)) ≡ s = simp append-assoc at (ap (λ (y : List ℕ). y ++ drop n s) q) ∙ take-append-drop n s in
+        let e : p ++ (c ++ (t ++ drop n s)) ≡ s =
+        simp append-assoc at (ap (λ (y : List ℕ). y ++ drop n s) q) ∙ take-append-drop n s in
         nf (fault (ConfusingUnicode (scalar c)) (length p) n)
         (subst (λ (y : List ℕ). Fails σ y (fault (ConfusingUnicode (scalar c)) (length p) n)) e
         (Fails.comment (t ++ drop n s) h (rw (z .0) at cm) (rw e l) pl ch cf (omega arith)))

@@ -27,9 +27,11 @@ pub divided-drop : {σ : Settings} {s rest : List ℕ} {ts : List Piece} → Div
 divided-drop Divided.none = refl
 divided-drop {s = s} (Divided.more {t = t} {ts = ts} l r) = divided-drop r ∙ drop-drop (lengths ts) (t .len) s
 
-pub divided-length : {σ : Settings} {s rest : List ℕ} {ts : List Piece} → Divided σ s ts rest → lengths ts + length rest ≡ length s
+pub divided-length : {σ : Settings} {s rest : List ℕ} {ts : List Piece} → Divided σ s ts rest
+    → lengths ts + length rest ≡ length s
 divided-length Divided.none = omega arith
-divided-length {s = s} (Divided.more {t = t} l r) = let i = divided-length r in let h = token-size l in omega (arith, length-drop (t .len) s)
+divided-length {s = s} (Divided.more {t = t} l r) = let i = divided-length r in let h = token-size l in
+    omega (arith, length-drop (t .len) s)
 
 -- none is empty
 abbrev pub Some : List Piece → Type 0
@@ -56,7 +58,8 @@ token-one t t′ l l′ = let q = lexed-one l l′ in same (cc) (cc)
     same p q = λ i. record { kind = p i; len = q i }
 
 -- as many tokens are the same tokens
-pub divided-one : {σ : Settings} {s rest rest′ : List ℕ} {ts ts′ : List Piece} → Divided σ s ts rest → Divided σ s ts′ rest′
+pub divided-one : {σ : Settings} {s rest rest′ : List ℕ} {ts ts′ : List Piece} → Divided σ s ts rest
+    → Divided σ s ts′ rest′
     → length ts ≡ length ts′ → (ts ≡ ts′) × (rest ≡ rest′)
 divided-one Divided.none Divided.none e = (refl, refl)
 divided-one Divided.none (Divided.more l r) e = absurd (omega arith)
@@ -97,7 +100,8 @@ joined s (t ∷ ts) = take (t .len) s ++ joined (drop (t .len) s) ts
 pub divided-joined : {σ : Settings} {s rest : List ℕ} {ts : List Piece} → Divided σ s ts rest → joined s ts ++ rest ≡ s
 divided-joined Divided.none = refl
 divided-joined {s = s} {rest = rest} (Divided.more {t = t} {ts = ts} l r) =
-    append-assoc (take (t .len) s) (joined (drop (t .len) s) ts) rest ∙ ap (λ (x : List ℕ). take (t .len) s ++ x) (divided-joined r) ∙ take-append-drop (t .len) s
+    append-assoc (take (t .len) s) (joined (drop (t .len) s) ts) rest
+    ∙ ap (λ (x : List ℕ). take (t .len) s ++ x) (divided-joined r) ∙ take-append-drop (t .len) s
 
 -- each token is the longest start of what is left that is a token of any kind
 abbrev pub Longests : List ℕ → List Piece → Type 0
@@ -108,7 +112,8 @@ divided-longest : {σ : Settings} {s rest : List ℕ} {ts : List Piece} → Divi
 divided-longest Divided.none = tt
 divided-longest (Divided.more (Lexed.token l f) r) = (l, divided-longest r)
 
--- one division: the tokens of a text that is divided to its end are all of its bytes, none is empty, each is the longest, and no other tokens divide it
+-- one division: the tokens of a text that is divided to its end are all of its bytes, none is empty, each is the
+-- longest, and no other tokens divide it
 pub record Division (σ : Settings) (s : List ℕ) (ts : List Piece) : Type 0 where
   pub every-byte : joined s ts ≡ s
   pub none-empty : Some ts
@@ -126,12 +131,14 @@ one-division {s = s} {ts = ts} d =
 
 -- ---- divisions one behind the other
 
-pub divided-append : {σ : Settings} {s mid rest : List ℕ} {us vs : List Piece} → Divided σ s us mid → Divided σ mid vs rest → Divided σ s (us ++ vs) rest
+pub divided-append : {σ : Settings} {s mid rest : List ℕ} {us vs : List Piece} → Divided σ s us mid → Divided σ mid vs rest
+    → Divided σ s (us ++ vs) rest
 divided-append Divided.none e = e
 divided-append (Divided.more l r) e = Divided.more l (divided-append r e)
 
 -- where fewer tokens were taken, one more follows
-pub divided-next : {σ : Settings} {s rest rest′ : List ℕ} {ts ts′ : List Piece} → Divided σ s ts rest → Divided σ s ts′ rest′ → length ts < length ts′
+pub divided-next : {σ : Settings} {s rest rest′ : List ℕ} {ts ts′ : List Piece} → Divided σ s ts rest
+    → Divided σ s ts′ rest′ → length ts < length ts′
     → (t : Piece) × Lexed σ rest (answer.Token (t .kind) (t .len))
 divided-next Divided.none Divided.none h = absurd (omega arith)
 divided-next Divided.none (Divided.more {t = t} l r) h = (t, l)

@@ -33,7 +33,8 @@ not-both {text} {n} {e} s g = let z = says-one text Ok (Bad n e) g s in differ (
 pub bad-one : {text : List ℕ} {n e n′ e′ : ℕ} → Says text (Bad n e) → Says text (Bad n′ e′) → (n ≡ n′) × (e ≡ e′)
 bad-one {text} {n} {e} {n′} {e′} s s′ = let z = says-one text (Bad n e) (Bad n′ e′) s s′ in (cc, cc)
 
-pub rejected-one : {text : List ℕ} {pos p p′ : ℕ} {r r′ : Refusal} → Rejected text pos r p → Rejected text pos r′ p′ → (r ≡ r′) × (p ≡ p′)
+pub rejected-one : {text : List ℕ} {pos p p′ : ℕ} {r r′ : Refusal} → Rejected text pos r p → Rejected text pos r′ p′
+    → (r ≡ r′) × (p ≡ p′)
 rejected-one (Rejected.too-long h) (Rejected.too-long h′) = (refl, refl)
 rejected-one (Rejected.too-long h) (Rejected.not-utf8 k s) = absurd (omega arith)
 rejected-one (Rejected.too-long h) (Rejected.past-end t k) = absurd (omega (arith, t .short))
@@ -96,14 +97,16 @@ parses σ text pos = go (entering text pos)
     go (inr s) = (at pos (lex σ (drop pos text)), Parses.lexes s (lexed σ (s .between)))
 
 -- same rest, same answer: where what is left of two texts is equal, one answer serves both, counted from each position
-pub same-rest : (σ : Settings) {x y : List ℕ} {p q : ℕ} → Stands x p → Stands y q → drop p x ≡ drop q y → (a : Answer) × Parses σ x p (at p a) × Parses σ y q (at q a)
+pub same-rest : (σ : Settings) {x y : List ℕ} {p q : ℕ} → Stands x p → Stands y q → drop p x ≡ drop q y
+    → (a : Answer) × Parses σ x p (at p a) × Parses σ y q (at q a)
 same-rest σ {x} {y} {p} {q} s t e =
     let l = lexed σ (s .between) in
     (lex σ (drop p x), Parses.lexes s l, Parses.lexes t (subst (λ (z : List ℕ). Lexed σ z (lex σ (drop p x))) e l))
 
 -- ---- annotation
 
-pub annotates-one : {σ : Settings} {text : List ℕ} {pos : ℕ} {a b : Found} → Annotates σ text pos a → Annotates σ text pos b → a ≡ b
+pub annotates-one : {σ : Settings} {text : List ℕ} {pos : ℕ} {a b : Found} → Annotates σ text pos a
+    → Annotates σ text pos b → a ≡ b
 annotates-one (Annotates.too-long h) (Annotates.too-long h′) = refl
 annotates-one (Annotates.too-long h) (Annotates.not-utf8 k s) = absurd (omega arith)
 annotates-one (Annotates.too-long h) (Annotates.elsewhere t n) = absurd (omega (arith, t .short))

@@ -1,4 +1,5 @@
--- The kind of a run by its parts: idchars alone; idchars and one string; more. For the code, which passes the parts one after the other. Assumes nothing.
+-- The kind of a run by its parts: idchars alone; idchars and one string; more. For the code, which passes the parts
+-- one after the other. Assumes nothing.
 use Prim.Native.Nat.{ℕ, suc}
 use mathlib.Core.Path.{_≡_, refl, ap, _∙_}
 use mathlib.Core.Bool.{Bool, true, false}
@@ -23,7 +24,8 @@ use Rattle.wat.proofs.OneKind.{kind-quoted, whole-yes, whole-other, whole-alone
 -- the kind of idchars and one string
 abbrev pub quotedBy : List ℕ → TokenKind
 quotedBy [] = kind.String
-quotedBy (x ∷ []) = elim (eqb x (byte "$")) [ true ↦ kind.Id | false ↦ elim (eqb x (byte "@")) [ true ↦ kind.Annotation | false ↦ kind.Reserved ] ]
+quotedBy (x ∷ []) =
+    elim (eqb x (byte "$")) [ true ↦ kind.Id | false ↦ elim (eqb x (byte "@")) [ true ↦ kind.Annotation | false ↦ kind.Reserved ] ]
 quotedBy (x ∷ y ∷ u) = kind.Reserved
 
 -- a quotation mark ends a word
@@ -35,7 +37,8 @@ count-ends t (Each.next e p) = rw (e, count) (ap suc (count-ends t p))
 word-ends : {u : List ℕ} (t : List ℕ) → Each idchar true u → word (u ++ (0x22 ∷ t)) ≡ false
 unfolding word
 word-ends {u} t p =
-    ne-eqb (count idchar true (u ++ (0x22 ∷ t))) (length (u ++ (0x22 ∷ t))) (λ (e : count idchar true (u ++ (0x22 ∷ t)) ≡ length (u ++ (0x22 ∷ t))).
+    ne-eqb (count idchar true (u ++ (0x22 ∷ t))) (length (u ++ (0x22 ∷ t)))
+    (λ (e : count idchar true (u ++ (0x22 ∷ t)) ≡ length (u ++ (0x22 ∷ t))).
     omega (arith, count-ends t p, length-append u (0x22 ∷ t)))
 
 idchar-no-quote : (x : ℕ) (t : List ℕ) → idchar x ≡ true → whole (x ∷ t) ≡ false
@@ -67,10 +70,12 @@ kind-one-string Each.none s = tok-kind (Tok.proper (Proper.string s))
 kind-one-string {q = q} (Each.next {x = x} e Each.none) (Str.quoted {s = s} r) =
     kind-quoted x q (family-idchar x e) (word-ends (s ++ (0x22 ∷ [])) (Each.next e Each.none))
     ∙ rw (idchar-no-quote x q e, whole-yes (Str.quoted r), quotedKind)
-kind-one-string (Each.next {x = x} e (Each.next {x = y} {t = u} f p)) (Str.quoted {s = s} r) = kind-two x y u (s ++ (0x22 ∷ [])) (Each.next e (Each.next f p))
+kind-one-string (Each.next {x = x} e (Each.next {x = y} {t = u} f p)) (Str.quoted {s = s} r) =
+    kind-two x y u (s ++ (0x22 ∷ [])) (Each.next e (Each.next f p))
 
 -- idchars, a string, and more
-pub kind-more : {u q v : List ℕ} (r : List ℕ) → Each idchar true u → Str lenient q v → (r ≡ [] → ⊥) → kindOf (u ++ (q ++ r)) ≡ kind.Reserved
+pub kind-more : {u q v : List ℕ} (r : List ℕ) → Each idchar true u → Str lenient q v → (r ≡ [] → ⊥)
+    → kindOf (u ++ (q ++ r)) ≡ kind.Reserved
 unfolding quotedKind
 kind-more r Each.none (Str.quoted {s = s} q) n =
     kind-quoted 0x22 ((s ++ (0x22 ∷ [])) ++ r) family-quote (word-ends ((s ++ (0x22 ∷ [])) ++ r) Each.none)
@@ -82,4 +87,5 @@ kind-more r Each.none (Str.quoted {s = s} q) n =
 kind-more r (Each.next {x = x} e Each.none) (Str.quoted {s = s} q) n =
     kind-quoted x (0x22 ∷ ((s ++ (0x22 ∷ [])) ++ r)) (family-idchar x e) (word-ends ((s ++ (0x22 ∷ [])) ++ r) (Each.next e Each.none))
     ∙ rw (idchar-no-quote x (0x22 ∷ ((s ++ (0x22 ∷ [])) ++ r)) e, whole-joined r (Str.quoted q) n, quotedKind)
-kind-more r (Each.next {x = x} e (Each.next {x = y} {t = u} f p)) (Str.quoted {s = s} q) n = kind-two x y u ((s ++ (0x22 ∷ [])) ++ r) (Each.next e (Each.next f p))
+kind-more r (Each.next {x = x} e (Each.next {x = y} {t = u} f p)) (Str.quoted {s = s} q) n =
+    kind-two x y u ((s ++ (0x22 ∷ [])) ++ r) (Each.next e (Each.next f p))

@@ -1,5 +1,5 @@
--- A walk over the tokens of a text: where it begins, one token more, two walks one behind the other, its end; and the records of its tokens.
--- Assumes nothing.
+-- A walk over the tokens of a text: where it begins, one token more, two walks one behind the other, its end; and the
+-- records of its tokens. Assumes nothing.
 use Prim.Native.Nat.{ℕ, suc, _+_, _*_, _≤_, _<_}
 use mathlib.Core.Path.{_≡_, refl, sym, ap, _∙_, subst}
 use mathlib.Core.List.{List, [], _∷_, _++_, append-nil, append-assoc}
@@ -22,10 +22,16 @@ module _ (σ : Settings) (text : List ℕ) where
   walked-start s = record { divided = Divided.none; place = omega arith; stands = s }
 
   -- one token more: behind it the text can be read on
-  pub stands-on : {at : ℕ} {k : TokenKind} {n : ℕ} → Stands text at → Lexed σ (drop at text) (answer.Token k n) → Stands text (at + n)
+  pub stands-on : {at : ℕ} {k : TokenKind} {n : ℕ} → Stands text at → Lexed σ (drop at text) (answer.Token k n)
+      → Stands text (at + n)
   stands-on {at} {k} {n} s l =
       let z = token-size l in
-      record { sound = s .sound; within = omega (arith, z .1, length-drop at text, s .within); between = rw (drop-drop n at text) at (formed l) }
+      record {
+        sound = s .sound;
+        within = omega (arith, z .1, length-drop at text, s .within);
+        between =
+            rw (drop-drop n at text) at (formed l);
+      }
     where
       formed : Lexed σ (drop at text) (answer.Token k n) → WellFormed (drop n (drop at text))
       formed (Lexed.token x f) = token-formed (s .between) x .1
@@ -40,7 +46,8 @@ module _ (σ : Settings) (text : List ℕ) where
       }
 
   -- two walks, the second from where the first ended
-  pub walked-then : {start mid at : ℕ} {us vs : List Piece} → Walked σ text start mid us → Walked σ text mid at vs → Walked σ text start at (us ++ vs)
+  pub walked-then : {start mid at : ℕ} {us vs : List Piece} → Walked σ text start mid us → Walked σ text mid at vs
+      → Walked σ text start at (us ++ vs)
   walked-then {us = us} {vs = vs} p q =
       record {
         divided = divided-append (p .divided) (q .divided);
@@ -48,12 +55,14 @@ module _ (σ : Settings) (text : List ℕ) where
         stands = q .stands;
       }
 
-  pub walked-more : {start at : ℕ} {ts : List Piece} {k : TokenKind} {n : ℕ} → Walked σ text start at ts → Lexed σ (drop at text) (answer.Token k n)
+  pub walked-more : {start at : ℕ} {ts : List Piece} {k : TokenKind} {n : ℕ} → Walked σ text start at ts
+      → Lexed σ (drop at text) (answer.Token k n)
       → Walked σ text start (at + n) (ts ++ (record { kind = k; len = n } ∷ []))
   walked-more w l = walked-then w (walked-one (w .stands) l)
 
   -- a walk to the end divides all that is left
-  pub walked-end : {start at : ℕ} {ts : List Piece} → Walked σ text start at ts → length text ≤ at → Divided σ (drop start text) ts []
+  pub walked-end : {start at : ℕ} {ts : List Piece} → Walked σ text start at ts → length text ≤ at
+      → Divided σ (drop start text) ts []
   walked-end {start} {at} {ts} w h = subst (λ (z : List ℕ). Divided σ (drop start text) ts z) (drop-of-length-le text h) (w .divided)
 
 -- ---- records

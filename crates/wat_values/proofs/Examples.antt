@@ -24,7 +24,14 @@ power = Exponent.power refl Signed.plus three
 ten : Split false (bytes "-10.5e+3") Minus (bytes "-") (bytes "10") (bytes ".5") (bytes "e+3")
 unfolding digit between
 ten =
-    record { signed = Signed.minus; whole = Digits.next refl (Digits.last refl); after = Fraction.dot-digits five; power = power; is = refl }
+    record {
+      signed = Signed.minus;
+      whole = Digits.next refl (Digits.last refl);
+      after = Fraction.dot-digits five;
+      power = power;
+      is =
+          refl;
+    }
 
 ten-integral : Reads (Reader.float the.Integral) (Float (Normal false false)) (bytes "-10.5e+3") (part 0 (bytes "-10"))
 unfolding copyOrPart bare
@@ -40,7 +47,14 @@ ten-exponent = Reads.an-exponent ten Signed.plus three
 
 gap : Split false (bytes "-1_0.5e+3") Minus (bytes "-") (bytes "1_0") (bytes ".5") (bytes "e+3")
 unfolding digit between
-gap = record { signed = Signed.minus; whole = Digits.gap refl (Digits.last refl); after = Fraction.dot-digits five; power = power; is = refl }
+gap = record {
+  signed = Signed.minus;
+  whole = Digits.gap refl (Digits.last refl);
+  after = Fraction.dot-digits five;
+  power =
+      power;
+  is = refl;
+}
 
 gap-integral : Reads (Reader.float the.Integral) (Float (Normal true false)) (bytes "-1_0.5e+3") (copy (bytes "-10"))
 unfolding copyOrPart bare

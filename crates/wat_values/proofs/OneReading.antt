@@ -11,7 +11,8 @@ use Rattle.wat_values.specs.Reading.{There, Missing, needs, found, Hande
 use Rattle.wat_laws.proofs.OneCall.{rejected-one, stands-or-rejected}
 use Rattle.wat_values.proofs.OneValue.{reads-one}
 
-pub missing-one : {text : List ℕ} {token : Token} {r r′ : Refusal} {p p′ : ℕ} → Missing text token r p → Missing text token r′ p′
+pub missing-one : {text : List ℕ} {token : Token} {r r′ : Refusal} {p p′ : ℕ} → Missing text token r p
+    → Missing text token r′ p′
     → (r ≡ r′) × (p ≡ p′)
 missing-one (Missing.rejected t) (Missing.rejected t′) = rejected-one t t′
 missing-one (Missing.rejected t) (Missing.not-there s n) = absurd (stands-or-rejected s t)
@@ -42,14 +43,16 @@ reads-takes (Reads.of-payload n) = Takes.a-float
 reads-takes Reads.of-normal = Takes.a-float
 
 -- a value is handed over in one way
-pub handed-one : {offset : ℕ} {v v′ : Value} {buffer b b′ : List ℕ} {a a′ : Reading} → Handed offset v buffer a b → Handed offset v′ buffer a′ b′ → v ≡ v′ → (a ≡ a′) × (b ≡ b′)
+pub handed-one : {offset : ℕ} {v v′ : Value} {buffer b b′ : List ℕ} {a a′ : Reading} → Handed offset v buffer a b
+    → Handed offset v′ buffer a′ b′ → v ≡ v′ → (a ≡ a′) × (b ≡ b′)
 handed-one (Handed.too-short h) (Handed.too-short h′) z = (refl, refl)
 handed-one (Handed.too-short h) (Handed.fits h′) z = absurd (omega (arith, ap (λ (v : Value). length (needs v)) z))
 handed-one (Handed.fits h) (Handed.too-short h′) z = absurd (omega (arith, ap (λ (v : Value). length (needs v)) z))
 handed-one {offset = offset} {buffer = buffer} (Handed.fits h) (Handed.fits h′) z =
     (ap (found offset) z, ap (λ (v : Value). needs v ++ drop (length (needs v)) buffer) z)
 
-pub read-one : {reader : Reader} {text buffer b b′ : List ℕ} {token : Token} {a a′ : Reading} → Read reader text token buffer a b → Read reader text token buffer a′ b′ → (a ≡ a′) × (b ≡ b′)
+pub read-one : {reader : Reader} {text buffer b b′ : List ℕ} {token : Token} {a a′ : Reading}
+    → Read reader text token buffer a b → Read reader text token buffer a′ b′ → (a ≡ a′) × (b ≡ b′)
 read-one (Read.missing x) (Read.missing y) = let z = missing-one x y in (cc (z .0, z .1), refl)
 read-one (Read.missing x) (Read.other-kind t n) = absurd (there-or-missing t x)
 read-one (Read.missing x) (Read.reads t r h) = absurd (there-or-missing t x)
@@ -81,7 +84,8 @@ reads-sign-one (ReadsSign.sign t e) (ReadsSign.missing x) = absurd (there-or-mis
 reads-sign-one (ReadsSign.sign {i = i} t e) (ReadsSign.other-kind t′ n) = absurd (n i e)
 reads-sign-one (ReadsSign.sign {i = i} t e) (ReadsSign.sign {i = j} t′ e′) = let z : i ≡ j = cc in cc
 
-pub reads-negative-one : {text : List ℕ} {token : Token} {a b : FloatSign} → ReadsNegative text token a → ReadsNegative text token b → a ≡ b
+pub reads-negative-one : {text : List ℕ} {token : Token} {a b : FloatSign} → ReadsNegative text token a
+    → ReadsNegative text token b → a ≡ b
 reads-negative-one (ReadsNegative.missing x) (ReadsNegative.missing y) = let z = missing-one x y in cc (z .0, z .1)
 reads-negative-one (ReadsNegative.missing x) (ReadsNegative.other-kind t n) = absurd (there-or-missing t x)
 reads-negative-one (ReadsNegative.missing x) (ReadsNegative.sign t e) = absurd (there-or-missing t x)

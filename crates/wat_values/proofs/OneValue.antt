@@ -85,8 +85,10 @@ name-one a b = names-one a b refl
 -- ---- numbers
 
 -- a sign and what follows it
-signed-one : {sign sign′ : Sign} {u u′ s s′ : List ℕ} → Signed sign u → Signed sign′ u′ → Plain s → Plain s′ → u ++ s ≡ u′ ++ s′ → (sign ≡ sign′) × (s ≡ s′)
-signed-one a b p q e = (sym (sign-passed a p) ∙ ap sign-of e ∙ sign-passed b q, sym (after-passed a p) ∙ ap after-sign e ∙ after-passed b q)
+signed-one : {sign sign′ : Sign} {u u′ s s′ : List ℕ} → Signed sign u → Signed sign′ u′ → Plain s → Plain s′
+    → u ++ s ≡ u′ ++ s′ → (sign ≡ sign′) × (s ≡ s′)
+signed-one a b p q e =
+    (sym (sign-passed a p) ∙ ap sign-of e ∙ sign-passed b q, sym (after-passed a p) ∙ ap after-sign e ∙ after-passed b q)
 
 -- two ways to split a list with the same end
 front-one : (p p′ v v′ : List ℕ) → p ++ v ≡ p′ ++ v′ → v ≡ v′ → p ≡ p′
@@ -127,11 +129,13 @@ split-one {hex} {w} {sign} {sign′} {u} {u′} {p} {p′} {f} {f′} {e} {e′}
     )
 
 -- a sign and digits
-number-one : {sign sign′ : Sign} {u u′ s s′ : List ℕ} → Signed sign u → Signed sign′ u′ → Digits false s → Digits false s′
+number-one : {sign sign′ : Sign} {u u′ s s′ : List ℕ} → Signed sign u → Signed sign′ u′ → Digits false s
+    → Digits false s′
     → u ++ s ≡ u′ ++ s′ → (sign ≡ sign′) × (s ≡ s′)
 number-one g g′ d d′ q = signed-one g g′ (rw append-nil at (digits-plain [] d)) (rw append-nil at (digits-plain [] d′)) q
 
-payload-same : {sign sign′ : Sign} {u u′ w : List ℕ} (s s′ : List ℕ) (c : Bool) → Signed sign u → Signed sign′ u′ → w ≡ u ++ (nan-colon ++ s) → w ≡ u′ ++ (nan-colon ++ s′)
+payload-same : {sign sign′ : Sign} {u u′ w : List ℕ} (s s′ : List ℕ) (c : Bool) → Signed sign u → Signed sign′ u′
+    → w ≡ u ++ (nan-colon ++ s) → w ≡ u′ ++ (nan-colon ++ s′)
     → copyOrPart c (length (u ++ nan-colon)) (bare s) ≡ copyOrPart c (length (u′ ++ nan-colon)) (bare s′)
 payload-same {sign} {sign′} {u} {u′} s s′ c g g′ e e′ =
     let z = signed-one g g′ (plain refl refl) (plain refl refl) (sym e ∙ e′) in
@@ -227,7 +231,8 @@ number-made (Literal.an-integer x) = (x, refl)
 number-made (Literal.a-float x n) = (x, refl)
 number-made (Literal.an-inf g) = tt
 number-made (Literal.a-nan g) = tt
-number-made (Literal.a-payload {sign = sign} {u = u} {s = s} g d) = (record { sign = sign; u = u; s = s; signed = g; number = d; is = refl }, payload-gaps s g)
+number-made (Literal.a-payload {sign = sign} {u = u} {s = s} g d) =
+    (record { sign = sign; u = u; s = s; signed = g; number = d; is = refl }, payload-gaps s g)
 
 pub made : {k : TokenKind} {w : List ℕ} → Tok k w → Made k w
 made (Tok.proper (Proper.line-comment l)) = tt

@@ -1,5 +1,6 @@
--- What passes can be read: a text that the listing carries from byte 0 to its end is divided in one way only, and each of its tokens, handed to its reader with a
--- buffer no shorter than itself, yields the value of the definitions. The one refusal left is a name that is empty or not UTF-8. Assumes nothing.
+-- What passes can be read: a text that the listing carries from byte 0 to its end is divided in one way only, and each
+-- of its tokens, handed to its reader with a buffer no shorter than itself, yields the value of the definitions. The
+-- one refusal left is a name that is empty or not UTF-8. Assumes nothing.
 use Prim.Native.Nat.{ℕ, _≤_}
 use mathlib.Core.Path.{_≡_, refl, sym, subst}
 use mathlib.Core.Logic.{_↔_}
@@ -26,7 +27,8 @@ use Rattle.wat_laws.proofs.Listings.{Whole, listed-whole}
 use Rattle.wat_values.proofs.OneValue.{reads-one, reads as reads-some}
 use Rattle.wat_values.proofs.OneReading.{read-one}
 use Rattle.wat_values.proofs.ValueLaws.{needs-short, Within, within}
-use Rattle.wat_values.proofs.ReadingLaws.{at-piece, is-token, token-long, is-there, is-alone, listed-stands, copy-taken, part-taken, refusal}
+use Rattle.wat_values.proofs.ReadingLaws.{at-piece, is-token, token-long, is-there, is-alone, listed-stands, copy-taken}
+use Rattle.wat_values.proofs.ReadingLaws.{part-taken, refusal}
 
 -- ---- the statement
 
@@ -46,7 +48,8 @@ pub record Yields (reader : Reader) (text : List ℕ) (token : Token) (v : Value
   -- the first call answers where the value is, and copies it where it is a copy
   pub answers : Read reader text token buffer (found (token .offset) v) (filled v buffer)
   -- it has no other answer, and leaves no other buffer
-  pub only : (a : Reading) (b : List ℕ) → Read reader text token buffer a b → (a ≡ found (token .offset) v) × (b ≡ filled v buffer)
+  pub only : (a : Reading) (b : List ℕ) → Read reader text token buffer a b
+      → (a ≡ found (token .offset) v) × (b ≡ filled v buffer)
   -- the second call, given that answer, hands over the value's bytes
   pub hands : Second text (filled v buffer) (found (token .offset) v) (bytesOf v)
 
@@ -80,7 +83,8 @@ pub record Passes (σ : Settings) (text list : List ℕ) (r : Listed) (l : List 
 
 -- ---- the proof
 
-hands-over : (text : List ℕ) (token : Token) (v : Value) (w buffer : List ℕ) → own text token ≡ w → token .offset ≤ length text → Within w v
+hands-over : (text : List ℕ) (token : Token) (v : Value) (w buffer : List ℕ) → own text token ≡ w
+    → token .offset ≤ length text → Within w v
     → Second text (filled v buffer) (found (token .offset) v) (bytesOf v)
 hands-over text token (part n v) w buffer e h i = part-taken text token w e buffer n v h i
 hands-over text token (copy v) w buffer e h i = copy-taken text v (drop (length v) buffer)
@@ -90,7 +94,8 @@ hands-over text token (refused v x) w buffer e h i =
     Second.none (λ s l (q : Refused (Lexical x) (token .offset) ≡ Text s l). differ (cc))
     (λ s l (q : Refused (Lexical x) (token .offset) ≡ Buffer s l). differ (cc))
 
-yields : {reader : Reader} {text : List ℕ} {token : Token} {v : Value} (w buffer : List ℕ) → own text token ≡ w → There text token → Tok (token .kind) w
+yields : {reader : Reader} {text : List ℕ} {token : Token} {v : Value} (w buffer : List ℕ) → own text token ≡ w
+    → There text token → Tok (token .kind) w
     → Reads reader (token .kind) w v → length w ≤ length buffer → Yields reader text token v buffer
 yields {reader} {text} {token} {v} w buffer e t k r h =
     let s : length (needs v) ≤ length buffer = omega (arith, needs-short r) in
@@ -98,8 +103,10 @@ yields {reader} {text} {token} {v} w buffer e t k r h =
     let a : Read reader text token buffer (found (token .offset) v) (filled v buffer) = Read.reads t o (Handed.fits s) in
     record { answers = a; only = λ x b y. read-one y a; hands = hands-over text token v w buffer e (t .stands .within) (within k r) }
 
-token-readable : {σ : Settings} {text : List ℕ} {reader : Reader} (token : Token) → Stands text 0 → WellFormed (drop (token .offset) text)
-    → Lexed σ (drop (token .offset) text) (answer.Token (token .kind) (token .len)) → Takes reader (token .kind) → Readable reader text token
+token-readable : {σ : Settings} {text : List ℕ} {reader : Reader} (token : Token) → Stands text 0
+    → WellFormed (drop (token .offset) text)
+    → Lexed σ (drop (token .offset) text) (answer.Token (token .kind) (token .len)) → Takes reader (token .kind)
+    → Readable reader text token
 token-readable {text = text} token start g l takes =
     let w = own text token in
     let n = token-long l in
@@ -116,7 +123,8 @@ token-readable {text = text} token start g l takes =
     }
 
 -- what passes can be read: each text that the listing carries from byte 0 to its end
-pub passes-readable : {σ : Settings} {text : List ℕ} {budget : ℕ} {list l : List ℕ} {r : Listed} → Listing σ text 0 budget list r l → r .stop ≡ stop.End → Passes σ text list r l
+pub passes-readable : {σ : Settings} {text : List ℕ} {budget : ℕ} {list l : List ℕ} {r : Listed}
+    → Listing σ text 0 budget list r l → r .stop ≡ stop.End → Passes σ text list r l
 passes-readable x e =
     let whole = listed-whole x e in
     let start = listed-stands x e in

@@ -1,4 +1,5 @@
--- Laws of the tokens that a listing hands out and of the readers' calls on them, over variables; `Readable` puts them together. Assumes nothing.
+-- Laws of the tokens that a listing hands out and of the readers' calls on them, over variables; `Readable` puts them
+-- together. Assumes nothing.
 use Prim.Native.Nat.{ℕ, _+_, _≤_}
 use mathlib.Core.Path.{_≡_, sym, ap, _∙_, refl, subst}
 use mathlib.Core.Logic.{_↔_}
@@ -6,7 +7,8 @@ use mathlib.Core.List.{List, [], _∷_, _++_, append-assoc}
 use native.Mathlib.Omega.{arith}
 use lib.ListN.{length, take, drop, length-append, length-drop, take-append-drop}
 use lib.Seq.{length-take-le, take-append-seam, drop-drop, drop-append-seam}
-use Rattle.wat.specs.declared.{TokenKind.TokenKind, Token.Token, LexError.LexError, Refusal.Refusal, Refusal.the-variants.Lexical, Listed.Listed}
+use Rattle.wat.specs.declared.{TokenKind.TokenKind, Token.Token, LexError.LexError, Refusal.Refusal, Refusal.the-variants.Lexical}
+use Rattle.wat.specs.declared.{Listed.Listed}
 use Rattle.wat.specs.declared.Answer.the-variants as answer
 use Rattle.wat_values.specs.declared.Reading.the-variants.{Refused, Text, Buffer}
 use Rattle.wat.specs.declared.Stop.the-variants as stop
@@ -28,15 +30,18 @@ use Rattle.wat_values.proofs.ValueLaws.{refused-misnamed, misnamed-refu
 -- ---- a token of a division
 
 -- what is left from a token on is UTF-8, and lexes to it
-pub at-piece : {σ : Settings} {s rest : List ℕ} {ts : List Piece} → WellFormed s → Divided σ s ts rest → (us vs : List Piece) (t : Piece) → ts ≡ us ++ (t ∷ vs)
+pub at-piece : {σ : Settings} {s rest : List ℕ} {ts : List Piece} → WellFormed s → Divided σ s ts rest
+    → (us vs : List Piece) (t : Piece) → ts ≡ us ++ (t ∷ vs)
     → WellFormed (drop (lengths us) s) × Lexed σ (drop (lengths us) s) (answer.Token (t .kind) (t .len))
 at-piece g Divided.none [] vs t e = differ (cc)
 at-piece g Divided.none (u ∷ us) vs t e = differ (cc)
-at-piece {σ} {s} g (Divided.more {t = p} l r) [] vs t e = let q : p ≡ t = cc in (g, subst (λ (z : Piece). Lexed σ s (answer.Token (z .kind) (z .len))) q l)
+at-piece {σ} {s} g (Divided.more {t = p} l r) [] vs t e = let q : p ≡ t = cc in
+    (g, subst (λ (z : Piece). Lexed σ s (answer.Token (z .kind) (z .len))) q l)
 at-piece {σ} {s} g (Divided.more {t = p} {ts = ts} (Lexed.token l f) r) (u ∷ us) vs t e =
     let q : p ≡ u = cc in
     let i = at-piece (token-formed g l .1) r us vs t (cc) in
-    let d : drop (lengths us) (drop (p .len) s) ≡ drop (u .len + lengths us) s = ap (λ (z : Piece). drop (lengths us) (drop (z .len) s)) q ∙ drop-drop (lengths us) (u .len) s in
+    let d : drop (lengths us) (drop (p .len) s) ≡ drop (u .len + lengths us) s =
+    ap (λ (z : Piece). drop (lengths us) (drop (z .len) s)) q ∙ drop-drop (lengths us) (u .len) s in
     subst (λ (z : List ℕ). WellFormed z × Lexed σ z (answer.Token (t .kind) (t .len))) d i
 
 pub is-token : {σ : Settings} {s : List ℕ} {k : TokenKind} {n : ℕ} → Lexed σ s (answer.Token k n) → Tok k (take n s)
@@ -45,7 +50,8 @@ is-token (Lexed.token l f) = l .is
 pub token-long : {σ : Settings} {s : List ℕ} {k : TokenKind} {n : ℕ} → Lexed σ s (answer.Token k n) → length (take n s) ≡ n
 token-long {s = s} {n = n} l = length-take-le n s (token-size l .1)
 
-formed : {σ : Settings} {s : List ℕ} {k : TokenKind} {n : ℕ} → WellFormed s → Lexed σ s (answer.Token k n) → WellFormed (take n s)
+formed : {σ : Settings} {s : List ℕ} {k : TokenKind} {n : ℕ} → WellFormed s → Lexed σ s (answer.Token k n)
+    → WellFormed (take n s)
 formed g (Lexed.token l f) = token-formed g l .0
 
 -- such a token is there for the readers, who lex leniently; and in a text of its own bytes alone
@@ -62,10 +68,15 @@ module _ {σ : Settings} {text : List ℕ} (token : Token) (start : Stands text 
       let s = token-size l in
       let short : length (own text token) ≤ most = omega (arith, token-long l, length-drop (token .offset) text, start .sound .short) in
       let u = formed g l in
-      record { stands = record { sound = record { short = short; formed = u }; within = omega arith; between = u }; lexed = lexed-alone g (lexed-lenient g l) }
+      record {
+        stands = record { sound = record { short = short; formed = u }; within = omega arith; between = u };
+        lexed =
+            lexed-alone g (lexed-lenient g l);
+      }
 
 -- the listing stands at the text's start
-pub listed-stands : {σ : Settings} {text : List ℕ} {budget : ℕ} {list l : List ℕ} {r : Listed} → Listing σ text 0 budget list r l → r .stop ≡ stop.End → Stands text 0
+pub listed-stands : {σ : Settings} {text : List ℕ} {budget : ℕ} {list l : List ℕ} {r : Listed}
+    → Listing σ text 0 budget list r l → r .stop ≡ stop.End → Stands text 0
 listed-stands (Listing.rejected t) e = differ (cc)
 listed-stands (Listing.lists s w f g x) e = s
 
@@ -96,7 +107,8 @@ module _ (text : List ℕ) (token : Token) (w : List ℕ) (e : own text token �
   around =
       sym (take-append-drop (token .offset) text)
       ∙ ap (λ (z : List ℕ). take (token .offset) text ++ z)
-      (sym (take-append-drop (token .len) (drop (token .offset) text)) ∙ ap (λ (z : List ℕ). z ++ drop (token .len) (drop (token .offset) text)) e)
+      (sym (take-append-drop (token .len) (drop (token .offset) text))
+      ∙ ap (λ (z : List ℕ). z ++ drop (token .len) (drop (token .offset) text)) e)
 
   -- a part of the token, taken from the text
   pub part-taken : (buffer : List ℕ) (n : ℕ) (v : List ℕ) → token .offset ≤ length text → Inside w n v

@@ -16,12 +16,14 @@ use Rattle.wat.specs.declared.Checked.the-variants.{Ok}
 use Rattle.wat.specs.Bytes.{bytes, between, has}
 use Rattle.wat.specs.Settings.{plain}
 use Rattle.wat.specs.Numbers.{digit, marks, Digits, Signed, Fraction, Exponent}
-use Rattle.wat.specs.NumberModel.{classify, run, strip, after-dot, fraction, sign-of, after-sign, exponent, at-end, then, decide, finite, is, nothing-left, payload, unsigned}
+use Rattle.wat.specs.NumberModel.{classify, run, strip, after-dot, fraction, sign-of, after-sign, exponent, at-end, then, decide}
+use Rattle.wat.specs.NumberModel.{finite, is, nothing-left, payload, unsigned}
 use Rattle.wat.specs.Utf8.{WellFormed, Says, scalar, table}
 use Rattle.wat.specs.Utf8Model.{front, scan, checked}
 use Rattle.wat.specs.Chars.{idchar, letter, space, newline, punctuation, confusing, control, isScalar}
 use Rattle.wat.specs.Strings.{escapes, Elems, Str}
-use Rattle.wat.specs.StringModel.{peek, hexOf, digits, encode, closeBy, numberBy, firstBy, braceBy, secondBy, escapeBy, hides, readBy, read}
+use Rattle.wat.specs.StringModel.{peek, hexOf, digits, encode, closeBy, numberBy, firstBy, braceBy, secondBy, escapeBy, hides, readBy}
+use Rattle.wat.specs.StringModel.{read}
 use Rattle.wat.specs.RunModel.{body, walk}
 use Rattle.wat.specs.CommentModel.{opens, ends}
 use Rattle.wat.specs.LexModel.{family, count, word, whole, quotedKind, runKind, kindOf, hidden, comment, lex}
@@ -55,8 +57,18 @@ rows =
     ∷ row "(;;)" (Token kind.BlockComment 4)
     ∷ row "(;(;;)" (Fault (fault DanglingBlockComment 0 0))
     ∷ row "1__0" (Token kind.Reserved 4)
-    ∷ record { text = bytes "1."; answer = Token float 2; reads = (reader.float the.Integral, part 0 (bytes "1")) ∷ (reader.float the.Exponent, absent) ∷ [] }
-    ∷ record { text = bytes "1.e5"; answer = Token float 4; reads = (reader.float the.Integral, part 0 (bytes "1")) ∷ (reader.float the.Exponent, part 3 (bytes "5")) ∷ [] }
+    ∷ record {
+      text = bytes "1.";
+      answer = Token float 2;
+      reads =
+          (reader.float the.Integral, part 0 (bytes "1")) ∷ (reader.float the.Exponent, absent) ∷ [];
+    }
+    ∷ record {
+      text = bytes "1.e5";
+      answer = Token float 4;
+      reads =
+          (reader.float the.Integral, part 0 (bytes "1")) ∷ (reader.float the.Exponent, part 3 (bytes "5")) ∷ [];
+    }
     ∷ row "nan:0x" (Token kind.Keyword 6)
     ∷ row "+nan:0x" (Token kind.Reserved 7)
     ∷ row "a\"x\"" (Token kind.Reserved 4)
@@ -117,7 +129,8 @@ unfolding rows
 rows-read = (tt, (tt, (tt, (tt, (tt, (dot-reads, (power-reads, (tt, (tt, (tt, (tt, (nothing-read, (tt, (tt, tt))))))))))))))
 
 -- each row holds
-by-model : (rs : List Row) → map (λ (r : Row). lex plain (r .text)) rs ≡ map (λ (r : Row). r .answer) rs → map (λ (r : Row). checked (r .text)) rs ≡ map (λ (r : Row). Ok) rs
+by-model : (rs : List Row) → map (λ (r : Row). lex plain (r .text)) rs ≡ map (λ (r : Row). r .answer) rs
+    → map (λ (r : Row). checked (r .text)) rs ≡ map (λ (r : Row). Ok) rs
     → All (λ r. Leaves (r .answer) (r .text) (r .reads)) rs → All Holds rs
 by-model [] e f m = tt
 by-model (r ∷ rs) e f m =

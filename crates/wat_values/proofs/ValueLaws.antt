@@ -1,4 +1,5 @@
--- What a reader leaves of a token: its copy is no longer than the token, its part stands in the token, and it is refused exactly where the name is. Assumes nothing.
+-- What a reader leaves of a token: its copy is no longer than the token, its part stands in the token, and it is
+-- refused exactly where the name is. Assumes nothing.
 use Prim.Native.Nat.{ℕ, _+_, _≤_}
 use mathlib.Core.Path.{_≡_, refl, sym, ap, _∙_, subst}
 use mathlib.Core.List.{List, [], _∷_, _++_, append-nil, append-assoc}
@@ -19,7 +20,8 @@ use Rattle.wat.specs.Chars.{idchar}
 use Rattle.wat.specs.Numbers.{prefix, nan-colon, Signed}
 use Rattle.wat.specs.Strings.{Elem, Elems, Str}
 use Rattle.wat.specs.Tokens.{Tok}
-use Rattle.wat_values.specs.Values.{Reader, Value, part, copy, absent, refused, copyOrPart, copied, bare, dropped, kept, Name, Split, Reads}
+use Rattle.wat_values.specs.Values.{Reader, Value, part, copy, absent, refused, copyOrPart, copied, bare, dropped, kept, Name}
+use Rattle.wat_values.specs.Values.{Split, Reads}
 use Rattle.wat_values.specs.Reading.{needs}
 use Rattle.wat_values.specs.Names.{Names, Misnamed}
 use Rattle.wat.proofs.Numbers.Parts.{has-append}
@@ -34,7 +36,13 @@ use Rattle.wat_values.proofs.OneValue.{name-one, made}
 
 table-short : All (λ row. length row ≤ 4) table
 unfolding table
-table-short = (omega arith, (omega arith, (omega arith, (omega arith, (omega arith, (omega arith, (omega arith, (omega arith, (omega arith, tt)))))))))
+table-short = (
+  omega arith,
+  (
+    omega arith,
+    (omega arith, (omega arith, (omega arith, (omega arith, (omega arith, (omega arith, (omega arith, tt))))))),
+  ),
+)
 
 char-short : {c : List ℕ} → Char c → length c ≤ 4
 char-short ch = omega (arith, fits-length (ch .fits), all-listed (λ row. length row ≤ 4) table table-short (ch .listed))
@@ -47,7 +55,8 @@ elem-short (Elem.unicode {ds = ds} r ch) = omega (arith, length-append ds (byte 
 
 elems-short : {σ : Settings} {s v : List ℕ} → Elems σ s v → length v ≤ length s
 elems-short Elems.none = omega arith
-elems-short (Elems.next {s = s} {v = v} {t = t} {w = w} p r) = omega (arith, length-append s t, length-append v w, elem-short p, elems-short r)
+elems-short (Elems.next {s = s} {v = v} {t = t} {w = w} p r) =
+    omega (arith, length-append s t, length-append v w, elem-short p, elems-short r)
 
 pub str-short : {σ : Settings} {w v : List ℕ} → Str σ w v → length v + 2 ≤ length w
 str-short (Str.quoted {s = s} r) = omega (arith, length-append s (byte "\"" ∷ []), elems-short r)
@@ -94,10 +103,12 @@ split-long {hex} {w} {sign} {u} {p} {f} {e} x =
     )
 
 -- digits that are no longer than the token, and with their sign
-digits-short : (w : List ℕ) (c : Bool) (n : ℕ) (s : List ℕ) → length s ≤ length w → length (needs (copyOrPart c n (bare s))) ≤ length w
+digits-short : (w : List ℕ) (c : Bool) (n : ℕ) (s : List ℕ) → length s ≤ length w
+    → length (needs (copyOrPart c n (bare s))) ≤ length w
 digits-short w c n s h = omega (arith, left-short c n (bare s), bare-short s)
 
-signed-short : {sign : Sign} {u : List ℕ} (w : List ℕ) (c : Bool) (n : ℕ) (s : List ℕ) → Signed sign u → length u + length s ≤ length w
+signed-short : {sign : Sign} {u : List ℕ} (w : List ℕ) (c : Bool) (n : ℕ) (s : List ℕ) → Signed sign u
+    → length u + length s ≤ length w
     → length (needs (copyOrPart c n (kept sign ++ bare s))) ≤ length w
 signed-short {sign} w c n s g h = omega (arith, left-short c n (kept sign ++ bare s), number-short s g)
 
@@ -135,20 +146,26 @@ left-passes true n v u e q = differ (cc)
 left-passes false n v u e q = differ (cc)
 
 -- a name that is refused is empty or not UTF-8
-name-wrong : (P : LexError → Type 0) (x : ℕ) {none : LexError} {w : List ℕ} {v : Value} (u : List ℕ) (e : LexError) → (Names (x ∷ w) [] → P none)
-    → ((name : List ℕ) (n l : ℕ) → Names (x ∷ w) name → Says name (Bad n l) → P (InvalidUtf8Id n l)) → Name none w v → v ≡ refused u e → P e
+name-wrong : (P : LexError → Type 0) (x : ℕ) {none : LexError} {w : List ℕ} {v : Value} (u : List ℕ) (e : LexError)
+    → (Names (x ∷ w) [] → P none)
+    → ((name : List ℕ) (n l : ℕ) → Names (x ∷ w) name → Says name (Bad n l) → P (InvalidUtf8Id n l)) → Name none w v
+    → v ≡ refused u e → P e
 name-wrong P x u e f g (Name.word h) q = differ (cc)
 name-wrong P x {none} u e f g Name.nothing q = let z : none ≡ e = cc in subst P z (f (Names.word Each.none))
 name-wrong P x u e f g (Name.quoted {w = w} {v = v} {x = y} s h) q = absurd (left-passes (has 0x5C w) 2 (y ∷ v) u e q)
 name-wrong P x {none} u e f g (Name.quoted-nothing s) q = let z : none ≡ e = cc in subst P z (f (Names.quoted s))
-name-wrong P x u e f g (Name.quoted-wrong {v = v} {n = n} {l = l} s h) q = let z : InvalidUtf8Id n l ≡ e = cc in subst P z (g v n l (Names.quoted s) h)
+name-wrong P x u e f g (Name.quoted-wrong {v = v} {n = n} {l = l} s h) q = let z : InvalidUtf8Id n l ≡ e = cc in
+    subst P z (g v n l (Names.quoted s) h)
 
-pub refused-misnamed : {r : Reader} {k : TokenKind} {w : List ℕ} {v : Value} (u : List ℕ) (e : LexError) → Reads r k w v → v ≡ refused u e → Misnamed r w e
+pub refused-misnamed : {r : Reader} {k : TokenKind} {w : List ℕ} {v : Value} (u : List ℕ) (e : LexError) → Reads r k w v
+    → v ≡ refused u e → Misnamed r w e
 refused-misnamed u e Reads.itself q = differ (cc)
 refused-misnamed u e (Reads.a-string {w = w} {v = v} s) q = absurd (left-passes (has 0x5C w) 1 v u e q)
-refused-misnamed u e (Reads.an-id {w = w} n) q = name-wrong (Misnamed Reader.id (0x24 ∷ w)) 0x24 u e (λ m. Misnamed.empty-id m) (λ name i l m h. Misnamed.wrong-id m h) n q
+refused-misnamed u e (Reads.an-id {w = w} n) q =
+    name-wrong (Misnamed Reader.id (0x24 ∷ w)) 0x24 u e (λ m. Misnamed.empty-id m) (λ name i l m h. Misnamed.wrong-id m h) n q
 refused-misnamed u e (Reads.an-annotation {w = w} n) q =
-    name-wrong (Misnamed Reader.annotation (0x40 ∷ w)) 0x40 u e (λ m. Misnamed.empty-annotation m) (λ name i l m h. Misnamed.wrong-annotation m h) n q
+    name-wrong (Misnamed Reader.annotation (0x40 ∷ w)) 0x40 u e (λ m. Misnamed.empty-annotation m)
+    (λ name i l m h. Misnamed.wrong-annotation m h) n q
 refused-misnamed u e (Reads.an-integer x) q = absurd (left-passes _ _ _ u e q)
 refused-misnamed u e (Reads.an-integral x) q = absurd (left-passes _ _ _ u e q)
 refused-misnamed u e (Reads.no-fraction x) q = differ (cc)
@@ -171,11 +188,13 @@ name-empty : {none : LexError} (x : ℕ) (w : List ℕ) → Names (x ∷ w) [] �
 name-empty x w (Names.word h) = Name.nothing
 name-empty x w (Names.quoted s) = Name.quoted-nothing s
 
-name-bad : {none : LexError} {name : List ℕ} {n l : ℕ} (x : ℕ) (w : List ℕ) → Names (x ∷ w) name → Says name (Bad n l) → (u : List ℕ) × Name none w (refused u (InvalidUtf8Id n l))
+name-bad : {none : LexError} {name : List ℕ} {n l : ℕ} (x : ℕ) (w : List ℕ) → Names (x ∷ w) name → Says name (Bad n l)
+    → (u : List ℕ) × Name none w (refused u (InvalidUtf8Id n l))
 name-bad x w (Names.word h) b = absurd (not-both b (word-formed h))
 name-bad x w (Names.quoted s) b = (_, Name.quoted-wrong s b)
 
-pub misnamed-refused : {r : Reader} {k : TokenKind} {w : List ℕ} {v : Value} {e : LexError} → Reads r k w v → Misnamed r w e → (u : List ℕ) × (v ≡ refused u e)
+pub misnamed-refused : {r : Reader} {k : TokenKind} {w : List ℕ} {v : Value} {e : LexError} → Reads r k w v → Misnamed r w e
+    → (u : List ℕ) × (v ≡ refused u e)
 misnamed-refused (Reads.an-id {w = w} n) (Misnamed.empty-id m) = (_, name-one n (name-empty 0x24 w m))
 misnamed-refused (Reads.an-id {w = w} n) (Misnamed.wrong-id m b) = let z = name-bad 0x24 w m b in (z .0, name-one n (z .1))
 misnamed-refused (Reads.an-annotation {w = w} n) (Misnamed.empty-annotation m) = (_, name-one n (name-empty 0x40 w m))
@@ -218,13 +237,22 @@ elems-raw (Elems.next {s = s} {v = v} {t = t} {w = w} p r) e = let z = has-parts
 
 str-raw : {w v : List ℕ} → Str lenient w v → has 0x5C w ≡ false → w ≡ 0x22 ∷ (v ++ (0x22 ∷ []))
 unfolding has
-str-raw (Str.quoted {s = s} {v = v} p) e = ap (λ (z : List ℕ). 0x22 ∷ (z ++ (0x22 ∷ []))) (elems-raw p (has-parts 0x5C s (0x22 ∷ []) e .0))
+str-raw (Str.quoted {s = s} {v = v} p) e =
+    ap (λ (z : List ℕ). 0x22 ∷ (z ++ (0x22 ∷ []))) (elems-raw p (has-parts 0x5C s (0x22 ∷ []) e .0))
 
 name-within : {none : LexError} {w : List ℕ} {v : Value} (x : ℕ) → Name none w v → Within (x ∷ w) v
-name-within x (Name.word {x = y} {w = w} h) = record { before = x ∷ []; after = []; split = ap (λ (z : List ℕ). x ∷ z) (sym (append-nil (y ∷ w))); long = refl }
+name-within x (Name.word {x = y} {w = w} h) =
+    record { before = x ∷ []; after = []; split = ap (λ (z : List ℕ). x ∷ z) (sym (append-nil (y ∷ w))); long = refl }
 name-within x Name.nothing = tt
 name-within x (Name.quoted {w = w} {v = v} {x = y} s h) =
-    left-within (has 0x5C w) 2 (y ∷ v) (λ e. record { before = x ∷ 0x22 ∷ []; after = 0x22 ∷ []; split = ap (λ (z : List ℕ). x ∷ z) (str-raw s e); long = refl })
+    left-within (has 0x5C w) 2 (y ∷ v)
+    (λ e. record {
+      before = x ∷ 0x22 ∷ [];
+      after = 0x22 ∷ [];
+      split = ap (λ (z : List ℕ). x ∷ z) (str-raw s e);
+      long =
+          refl;
+    })
 name-within x (Name.quoted-nothing s) = tt
 name-within x (Name.quoted-wrong s h) = tt
 
@@ -242,7 +270,8 @@ sign-split s Signed.plus = refl
 sign-split s Signed.minus = refl
 
 -- each part of a number, after what stands before it
-module _ {hex : Bool} {w : List ℕ} {sign : Sign} {u p f e : List ℕ} (x : Split hex w sign u p f e) (c : Bool) (g : c ≡ has 0x5F w) where
+module _ {hex : Bool} {w : List ℕ} {sign : Sign} {u p f e : List ℕ} (x : Split hex w sign u p f e) (c : Bool)
+    (g : c ≡ has 0x5F w) where
   gapless : (a b : List ℕ) → w ≡ a ++ b → c ≡ false → has 0x5F b ≡ false
   gapless a b i q = has-parts 0x5F a b (ap (has 0x5F) (sym i) ∙ sym g ∙ q) .1
 

@@ -17,4 +17,5 @@ pub data Misnamed : Reader → List ℕ → LexError → Type 0 where
   empty-id : {w : List ℕ} → Names w [] → Misnamed Reader.id w EmptyId
   empty-annotation : {w : List ℕ} → Names w [] → Misnamed Reader.annotation w EmptyAnnotation
   wrong-id : {w name : List ℕ} {n l : ℕ} → Names w name → Says name (Bad n l) → Misnamed Reader.id w (InvalidUtf8Id n l)
-  wrong-annotation : {w name : List ℕ} {n l : ℕ} → Names w name → Says name (Bad n l) → Misnamed Reader.annotation w (InvalidUtf8Id n l)
+  wrong-annotation : {w name : List ℕ} {n l : ℕ} → Names w name → Says name (Bad n l)
+      → Misnamed Reader.annotation w (InvalidUtf8Id n l)

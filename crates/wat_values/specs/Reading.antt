@@ -56,7 +56,8 @@ pub data Read (reader : Reader) (text : List ℕ) (token : Token) (buffer : List
   missing : {r : Refusal} {p : ℕ} → Missing text token r p → Read reader text token buffer (Refused r p) buffer
   other-kind : There text token → (Takes reader (token .kind) → ⊥)
       → Read reader text token buffer (Refused NotThatKind noPlace) buffer
-  reads : {v : Value} {a : Reading} {b : List ℕ} → There text token → Reads reader (token .kind) (own text token) v → Handed (token .offset) v buffer a b
+  reads : {v : Value} {a : Reading} {b : List ℕ} → There text token → Reads reader (token .kind) (own text token) v
+      → Handed (token .offset) v buffer a b
       → Read reader text token buffer a b
 
 -- the second call: the part that an answer names, if it lies in the text, or in the buffer; else none

@@ -68,9 +68,11 @@ kept Minus = bytes "-"
 pub data Name (e : LexError) : List ℕ → Value → Type 0 where
   word : {x : ℕ} {w : List ℕ} → Each idchar true (x ∷ w) → Name e (x ∷ w) (part 1 (x ∷ w))
   nothing : Name e [] (refused [] e)
-  quoted : {w v : List ℕ} {x : ℕ} → Str lenient w (x ∷ v) → Says (x ∷ v) Ok → Name e w (copyOrPart (has (byte "\\") w) 2 (x ∷ v))
+  quoted : {w v : List ℕ} {x : ℕ} → Str lenient w (x ∷ v) → Says (x ∷ v) Ok
+      → Name e w (copyOrPart (has (byte "\\") w) 2 (x ∷ v))
   quoted-nothing : {w : List ℕ} → Str lenient w [] → Name e w (refused [] e)
-  quoted-wrong : {w v : List ℕ} {n l : ℕ} → Str lenient w v → Says v (Bad n l) → Name e w (refused (copied (has (byte "\\") w) v) (InvalidUtf8Id n l))
+  quoted-wrong : {w v : List ℕ} {n l : ℕ} → Str lenient w v → Says v (Bad n l)
+      → Name e w (refused (copied (has (byte "\\") w) v) (InvalidUtf8Id n l))
 
 -- a number's bytes w in parts: the sign's bytes u, 0x if it is hexadecimal, the digits p before the point, the fraction
 -- f with its dot, the exponent e with its mark and sign. `-0x1_0.8p+3` has `-`, `1_0`, `.8` and `p+3`

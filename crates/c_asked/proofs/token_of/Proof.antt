@@ -62,10 +62,19 @@ no-token-requires-3 : tie.Need-no-token-requires-3
 no-token-requires-3 c κs = search needs
 
 returns-3 : tie.Need-returns-3
-returns-3 c = Asks.one (record { named = named-kind (c .before .before .before .kind-of .ensures) (c .before .kind .given .1); stands = refl; long = refl; fits = omega arith })
+returns-3 c =
+    Asks.one (record {
+      named = named-kind (c .before .before .before .kind-of .ensures) (c .before .kind .given .1);
+      stands =
+          refl;
+      long = refl;
+      fits = omega arith;
+    })
 
 returns-4 : tie.Need-returns-4
-returns-4 c = Asks.none (NoToken.nameless (no-kind (c .before .before .before .kind-of .ensures) (c .before .enum-told .given .1))) (c .no-token3 .ensures)
+returns-4 c =
+    Asks.none (NoToken.nameless (no-kind (c .before .before .before .kind-of .ensures) (c .before .enum-told .given .1)))
+    (c .no-token3 .ensures)
 
 pub token-of-spec : {M : Type 1} → statement M
 token-of-spec =

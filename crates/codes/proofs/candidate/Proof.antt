@@ -48,7 +48,10 @@ returns-10 : tie.Need-returns-10
 returns-10 c = only (c .before .before .before .before .args .n) 10 (c .match .keys10)
 
 returns-11 : tie.Need-returns-11
-returns-11 c = rw (c .before .before .before .has2 .ensures, c .before .before .has3 .ensures) (only-integer (c .before .before .before .before .before .args .n) (c .before .match .keys11) (c .sign-of .result) (c .sign-of .ensures))
+returns-11 c =
+    rw (c .before .before .before .has2 .ensures, c .before .before .has3 .ensures)
+    (only-integer (c .before .before .before .before .before .args .n) (c .before .match .keys11) (c .sign-of .result)
+    (c .sign-of .ensures))
 
 returns-12 : tie.Need-returns-12
 returns-12 c = rw (c .before .before .before .has .ensures) (only (c .before .before .before .before .args .n) 12 (c .match .keys12))
@@ -57,10 +60,14 @@ returns-13 : tie.Need-returns-13
 returns-13 c = rw (c .before .before .before .has .ensures) (only (c .before .before .before .before .args .n) 13 (c .match .keys13))
 
 returns-14 : tie.Need-returns-14
-returns-14 c = rw (c .before .before .before .has .ensures, c .before .before .has2 .ensures) (only (c .before .before .before .before .args .n) 14 (c .match .keys14))
+returns-14 c =
+    rw (c .before .before .before .has .ensures, c .before .before .has2 .ensures)
+    (only (c .before .before .before .before .args .n) 14 (c .match .keys14))
 
 returns-15 : tie.Need-returns-15
-returns-15 c = rw (c .before .before .has2 .ensures, c .before .has3 .ensures) (only (c .before .before .before .before .args .n) 15 (c .match .keys15))
+returns-15 c =
+    rw (c .before .before .has2 .ensures, c .before .has3 .ensures)
+    (only (c .before .before .before .before .args .n) 15 (c .match .keys15))
 
 returns-16 : tie.Need-returns-16
 returns-16 c = only-reserved (c .before .before .before .before .args .n) (c .match .rest)

@@ -17,7 +17,9 @@ returns : tie.Need-returns
 returns c = named (sym (c .before .kind-number .ensures) ∙ c .if1 .taken)
 
 returns-2 : tie.Need-returns-2
-returns-2 c = nameless (λ k e. c .if1 .left (c .before .kind-number .ensures ∙ ap kindNumber (sym (c .before .before .candidate .ensures k e)) ∙ e))
+returns-2 c =
+    nameless (λ k e. c .if1 .left
+    (c .before .kind-number .ensures ∙ ap kindNumber (sym (c .before .before .candidate .ensures k e)) ∙ e))
 
 pub kind-of-spec : {M : Type 1} → statement M
 kind-of-spec = tie.close (tie.spec candidate-requires kind-number-requires returns returns-2)

@@ -12,7 +12,8 @@ kind-number-requires-2 : tie.Need-kind-number-requires-2
 kind-number-requires-2 c κs = search needs
 
 returns : tie.Need-returns
-returns c = same-by (c .before .before .args .a) (c .before .before .args .b) _ _ (c .before .kind-number .ensures) (c .kind-number2 .ensures)
+returns c =
+    same-by (c .before .before .args .a) (c .before .before .args .b) _ _ (c .before .kind-number .ensures) (c .kind-number2 .ensures)
 
 pub same-kind-spec : {M : Type 1} → statement M
 same-kind-spec = tie.close (tie.spec kind-number-requires kind-number-requires-2 returns)

@@ -16,10 +16,24 @@ has-requires-2 : tie.Need-has-requires-2
 has-requires-2 c κs = search needs
 
 returns-2 : tie.Need-returns-2
-returns-2 c = λ i e. only-sign _ (c .before .before .before .before .pre) i e ∙ rw (sym (c .before .before .before .has .ensures) ∙ c .before .before .if1 .left, sym (c .before .has2 .ensures) ∙ c .if2 .taken, sign-at)
+returns-2 c =
+    λ i e. only-sign _ (c .before .before .before .before .pre) i e
+    ∙ rw (
+      sym (c .before .before .before .has .ensures) ∙ c .before .before .if1 .left,
+      sym (c .before .has2 .ensures)
+          ∙ c .if2 .taken,
+      sign-at,
+    )
 
 returns-3 : tie.Need-returns-3
-returns-3 c = λ i e. only-sign _ (c .before .before .before .before .pre) i e ∙ rw (sym (c .before .before .before .has .ensures) ∙ c .before .before .if1 .left, sym (c .before .has2 .ensures) ∙ c .if2 .left, sign-at)
+returns-3 c =
+    λ i e. only-sign _ (c .before .before .before .before .pre) i e
+    ∙ rw (
+      sym (c .before .before .before .has .ensures) ∙ c .before .before .if1 .left,
+      sym (c .before .has2 .ensures)
+          ∙ c .if2 .left,
+      sign-at,
+    )
 
 pub sign-of-spec : {M : Type 1} → statement M
 sign-of-spec = tie.close (tie.spec has-requires returns has-requires-2 returns-2 returns-3)

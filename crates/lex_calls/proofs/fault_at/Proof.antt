@@ -23,7 +23,8 @@ module _ (c : tie.After-begins) {f : Family} (e : c .begins .result ≡ f) where
   -- the error of its function is the error there
   fault :
       {r : Fault} → let a = start c .args in
-      Faults (a .at) (lexBy (a .settings) f (drop (a .at) (a .s .now))) r → Faults (a .at) (lex (a .settings) (drop (a .at) (a .s .now))) r
+      Faults (a .at) (lexBy (a .settings) f (drop (a .at) (a .s .now))) r
+      → Faults (a .at) (lex (a .settings) (drop (a .at) (a .s .now))) r
   fault {r} q = subst (λ (x : Answer). Faults (start c .args .at) x r) (sym begun) q
 
 shared-slice-read-begins : tie.Need-shared-slice-read-begins

@@ -42,10 +42,16 @@ unfolding family space idchar punctuation between has
 returns-6 c = ap family (sym (c .match .keys4))
 
 returns-7 : tie.Need-returns-7
-returns-7 c = let m = c .before .before .match .rest in (sym (family-single _ (sym (c .before .before .before .before .is-ws .ensures) ∙ c .before .before .before .if2 .left) (m .0 .0 .0 .1) (m .0 .0 .1) (m .0 .1) (sym (c .before .is-punctuation .ensures) ∙ c .if3 .taken)))
+returns-7 c = let m = c .before .before .match .rest in
+    (sym (family-single _ (sym (c .before .before .before .before .is-ws .ensures) ∙ c .before .before .before .if2 .left)
+    (m .0 .0 .0 .1) (m .0 .0 .1) (m .0 .1) (sym (c .before .is-punctuation .ensures) ∙ c .if3 .taken)))
 
 returns-8 : tie.Need-returns-8
-returns-8 c = let m = c .before .before .match .rest in (sym (family-none _ (sym (c .before .before .before .before .is-ws .ensures) ∙ c .before .before .before .if2 .left) (m .0 .0 .0 .1) (m .0 .0 .1) (m .0 .1) (sym (c .before .is-punctuation .ensures) ∙ c .if3 .left) (sym (c .before .before .before .before .before .before .is-idchar .ensures) ∙ c .before .before .before .before .before .if1 .left) (m .1)))
+returns-8 c = let m = c .before .before .match .rest in
+    (sym (family-none _ (sym (c .before .before .before .before .is-ws .ensures) ∙ c .before .before .before .if2 .left)
+    (m .0 .0 .0 .1) (m .0 .0 .1) (m .0 .1) (sym (c .before .is-punctuation .ensures) ∙ c .if3 .left)
+    (sym (c .before .before .before .before .before .before .is-idchar .ensures)
+    ∙ c .before .before .before .before .before .if1 .left) (m .1)))
 
 pub begins-spec : {M : Type 1} → statement M
 begins-spec =

@@ -27,7 +27,9 @@ is-idchar-requires : tie.Need-is-idchar-requires Inv-loop μ-loop
 is-idchar-requires c κs = c .before .before .before .before .pre .1
 
 returns : tie.Need-returns Inv-loop μ-loop
-returns c = passed-stop idchar true _ _ _ (c .before .before .before .before .loop .inv) (omega arith) (sym (c .before .is-idchar .ensures) ∙ not-true _ (c .if1 .taken))
+returns c =
+    passed-stop idchar true _ _ _ (c .before .before .before .before .loop .inv) (omega arith)
+    (sym (c .before .is-idchar .ensures) ∙ not-true _ (c .if1 .taken))
 
 add-i : tie.Need-add-i Inv-loop μ-loop
 add-i c = omega arith
@@ -36,7 +38,9 @@ loop-less : tie.Need-loop-less Inv-loop μ-loop
 loop-less c = omega arith
 
 loop-again : tie.Need-loop-again Inv-loop μ-loop
-loop-again c = passed-one idchar true _ _ _ (c .before .before .before .before .loop .inv) (omega arith) (sym (c .before .is-idchar .ensures) ∙ not-false _ (c .if1 .left))
+loop-again c =
+    passed-one idchar true _ _ _ (c .before .before .before .before .loop .inv) (omega arith)
+    (sym (c .before .is-idchar .ensures) ∙ not-false _ (c .if1 .left))
 
 returns-2 : tie.Need-returns-2 Inv-loop μ-loop
 returns-2 c = passed-end idchar true _ _ _ (c .before .loop .inv) (omega arith)

@@ -37,7 +37,8 @@ returns-7 c = sym (in-range confusing 0x202D 2 (c .before .before .before .befor
 
 returns-8 : tie.Need-returns-8
 unfolding confusing has
-returns-8 c = sym (in-range confusing 0x2066 4 (c .before .before .before .before .before .before .before .args .c) refl (omega arith) (omega arith))
+returns-8 c =
+    sym (in-range confusing 0x2066 4 (c .before .before .before .before .before .before .before .args .c) refl (omega arith) (omega arith))
 
 pub is-confusing-unicode-spec : {M : Type 1} → statement M
 is-confusing-unicode-spec =

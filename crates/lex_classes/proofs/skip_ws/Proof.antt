@@ -27,7 +27,9 @@ is-ws-requires : tie.Need-is-ws-requires Inv-loop μ-loop
 is-ws-requires c κs = c .before .before .before .before .pre .1
 
 returns : tie.Need-returns Inv-loop μ-loop
-returns c = passed-stop space true _ _ _ (c .before .before .before .before .loop .inv) (omega arith) (sym (c .before .is-ws .ensures) ∙ not-true _ (c .if1 .taken))
+returns c =
+    passed-stop space true _ _ _ (c .before .before .before .before .loop .inv) (omega arith)
+    (sym (c .before .is-ws .ensures) ∙ not-true _ (c .if1 .taken))
 
 add-i : tie.Need-add-i Inv-loop μ-loop
 add-i c = omega arith
@@ -36,7 +38,9 @@ loop-less : tie.Need-loop-less Inv-loop μ-loop
 loop-less c = omega arith
 
 loop-again : tie.Need-loop-again Inv-loop μ-loop
-loop-again c = passed-one space true _ _ _ (c .before .before .before .before .loop .inv) (omega arith) (sym (c .before .is-ws .ensures) ∙ not-false _ (c .if1 .left))
+loop-again c =
+    passed-one space true _ _ _ (c .before .before .before .before .loop .inv) (omega arith)
+    (sym (c .before .is-ws .ensures) ∙ not-false _ (c .if1 .left))
 
 returns-2 : tie.Need-returns-2 Inv-loop μ-loop
 returns-2 c = passed-end space true _ _ _ (c .before .loop .inv) (omega arith)

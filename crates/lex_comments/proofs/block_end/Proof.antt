@@ -2,7 +2,8 @@
 use Prim.Native.Nat.{_-_}
 use native.Mathlib.Omega.{arith}
 use lib.ListN.{length}
-use Rattle.lex_comments.proofs.BlockLaws.{Inside, inside-start, inside-plain, inside-none, inside-open, inside-paren, inside-close, inside-last, inside-semicolon}
+use Rattle.lex_comments.proofs.BlockLaws.{Inside, inside-start, inside-plain, inside-none, inside-open, inside-paren}
+use Rattle.lex_comments.proofs.BlockLaws.{inside-close, inside-last, inside-semicolon}
 use Rattle.lex_comments.proofs.block_end.Statement.{statement}
 use Rattle.lex_comments.proofs.block_end.Tie as tie
 
@@ -22,7 +23,8 @@ memchr2-requires c κs = (omega arith, omega arith)
 reached :
     (c : tie.After-memchr2 Inv-loop μ-loop) → let a = c .before .before .before .before .args in
     Inside (a .s .now) (a .at) (c .memchr2 .result) (c .before .before .loop .level)
-reached c = let l = c .before .before .loop in inside-plain _ _ (l .i) (l .level) (c .memchr2 .result) (l .inv) (c .memchr2 .ensures .passed)
+reached c = let l = c .before .before .loop in
+    inside-plain _ _ (l .i) (l .level) (c .memchr2 .result) (l .inv) (c .memchr2 .ensures .passed)
 
 sub-if1 : tie.Need-sub-if1 Inv-loop μ-loop
 sub-if1 c = omega arith
@@ -49,7 +51,8 @@ loop-less : tie.Need-loop-less Inv-loop μ-loop
 loop-less c = omega arith
 
 loop-again : tie.Need-loop-again Inv-loop μ-loop
-loop-again c = inside-open _ _ _ _ (reached (c .before .before .before .before .before)) (omega arith) (c .before .if2 .taken) (c .if3 .taken)
+loop-again c =
+    inside-open _ _ _ _ (reached (c .before .before .before .before .before)) (omega arith) (c .before .if2 .taken) (c .if3 .taken)
 
 add-i-2 : tie.Need-add-i-2 Inv-loop μ-loop
 add-i-2 c = omega arith
@@ -58,7 +61,8 @@ loop-less-2 : tie.Need-loop-less-2 Inv-loop μ-loop
 loop-less-2 c = omega arith
 
 loop-again-2 : tie.Need-loop-again-2 Inv-loop μ-loop
-loop-again-2 c = inside-paren _ _ _ _ (reached (c .before .before .before .before .before)) (omega arith) (c .before .if2 .taken) (c .if3 .left)
+loop-again-2 c =
+    inside-paren _ _ _ _ (reached (c .before .before .before .before .before)) (omega arith) (c .before .if2 .taken) (c .if3 .left)
 
 add-result : tie.Need-add-result Inv-loop μ-loop
 add-result c = omega arith
@@ -66,7 +70,8 @@ add-result c = omega arith
 returns-2 : tie.Need-returns-2 Inv-loop μ-loop
 returns-2 c =
     let m = c .before .before .before .before .before .before in
-    inside-last _ _ _ _ (reached m) (omega arith) (m .memchr2 .ensures .stops (omega arith)) (c .before .before .if2 .left) (c .before .if4 .taken) (c .if5 .taken)
+    inside-last _ _ _ _ (reached m) (omega arith) (m .memchr2 .ensures .stops (omega arith)) (c .before .before .if2 .left)
+    (c .before .if4 .taken) (c .if5 .taken)
 
 sub-level : tie.Need-sub-level Inv-loop μ-loop
 sub-level c = omega arith
@@ -80,7 +85,8 @@ loop-less-3 c = omega arith
 loop-again-3 : tie.Need-loop-again-3 Inv-loop μ-loop
 loop-again-3 c =
     let m = c .before .before .before .before .before .before in
-    inside-close _ _ _ _ (reached m) (omega arith) (m .memchr2 .ensures .stops (omega arith)) (c .before .before .if2 .left) (c .before .if4 .taken) (omega arith)
+    inside-close _ _ _ _ (reached m) (omega arith) (m .memchr2 .ensures .stops (omega arith)) (c .before .before .if2 .left)
+    (c .before .if4 .taken) (omega arith)
 
 add-i-4 : tie.Need-add-i-4 Inv-loop μ-loop
 add-i-4 c = omega arith

@@ -47,7 +47,9 @@ asked c = ap confusing (sym (c .before .char-at .ensures)) ∙ sym (c .is-confus
 returns-2 : tie.Need-returns-2 Inv-loop μ-loop
 returns-2 c =
     let m = c .before .before .before .before in
-    rw (c .before .before .char-at .ensures) (seen-found _ _ _ _ (reached m) (omega arith) (m .memchr2 .ensures .stops (omega arith)) (asked (c .before) ∙ c .if2 .taken) (omega arith))
+    rw (c .before .before .char-at .ensures)
+    (seen-found _ _ _ _ (reached m) (omega arith) (m .memchr2 .ensures .stops (omega arith)) (asked (c .before) ∙ c .if2 .taken)
+    (omega arith))
 
 add-i : tie.Need-add-i Inv-loop μ-loop
 add-i c = omega arith

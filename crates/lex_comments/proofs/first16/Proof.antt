@@ -41,8 +41,10 @@ loop-again c =
     let a = c .before .before .before .before .args in
     let l = c .before .before .before .loop in (
       omega arith,
-      ⊎-elim (λ w. rw (w .1) (digits-hit (among (a .x) (a .y)) (a .s .now) (a .i) (l .k) (l .m) (l .p) (omega arith) (l .inv .1) (among-or (a .x) (a .y) _ ∙ w .0 .taken)))
-          (λ w. rw (w .1) (digits-miss (among (a .x) (a .y)) (a .s .now) (a .i) (l .k) (l .m) (l .p) (omega arith) (l .inv .1) (among-or (a .x) (a .y) _ ∙ w .0 .left)))
+      ⊎-elim (λ w. rw (w .1) (digits-hit (among (a .x) (a .y)) (a .s .now) (a .i) (l .k) (l .m) (l .p) (omega arith) (l .inv .1)
+          (among-or (a .x) (a .y) _ ∙ w .0 .taken)))
+          (λ w. rw (w .1) (digits-miss (among (a .x) (a .y)) (a .s .now) (a .i) (l .k) (l .m) (l .p) (omega arith) (l .inv .1)
+          (among-or (a .x) (a .y) _ ∙ w .0 .left)))
           (c .if1 .came),
     )
 
@@ -57,7 +59,8 @@ returns c =
     let a = c .before .before .args in
     let l = c .before .loop in
     let q : l .k ≡ 16 = omega arith in
-    digits-zeros (l .inv .1) (omega (arith, length-drop (a .i) (a .s .now))) (omega arith) ∙ ap (λ (n : ℕ). count (among (a .x) (a .y)) false (take n (drop (a .i) (a .s .now)))) q
+    digits-zeros (l .inv .1) (omega (arith, length-drop (a .i) (a .s .now))) (omega arith)
+    ∙ ap (λ (n : ℕ). count (among (a .x) (a .y)) false (take n (drop (a .i) (a .s .now)))) q
 
 pub first16-spec : {M : Type 1} → statement M
 first16-spec =

@@ -23,7 +23,8 @@ first16-requires c κs = search needs
 found :
     (c : tie.After-first16) → let a = c .before .before .before .before .before .args in
     Sought (a .x) (a .y) (a .s .now) (a .at) (a .to) (c .before .before .before .skip16 .result + c .first16 .result)
-found c = let k = c .before .before .before .skip16 in rw (c .first16 .ensures) (sought-block _ _ _ _ _ (k .result) (k .ensures) (omega arith) (omega arith))
+found c = let k = c .before .before .before .skip16 in
+    rw (c .first16 .ensures) (sought-block _ _ _ _ _ (k .result) (k .ensures) (omega arith) (omega arith))
 
 add-result : tie.Need-add-result
 add-result c = omega (arith, found c .passed .within)

@@ -32,7 +32,8 @@ has16-requires-2 : tie.Need-has16-requires-2 Inv-loop μ-loop
 has16-requires-2 c κs = omega arith
 
 returns-2 : tie.Need-returns-2 Inv-loop μ-loop
-returns-2 c = let l = c .before .before .before .before .before .loop in skipped-here _ _ _ _ _ (l .i) (l .inv) (rw (← c .before .before .has16 .ensures, ← c .before .has162 .ensures) (c .if2 .taken))
+returns-2 c = let l = c .before .before .before .before .before .loop in
+    skipped-here _ _ _ _ _ (l .i) (l .inv) (rw (← c .before .before .has16 .ensures, ← c .before .has162 .ensures) (c .if2 .taken))
 
 add-i : tie.Need-add-i Inv-loop μ-loop
 add-i c = omega arith
@@ -41,7 +42,9 @@ loop-less : tie.Need-loop-less Inv-loop μ-loop
 loop-less c = omega arith
 
 loop-again : tie.Need-loop-again Inv-loop μ-loop
-loop-again c = let l = c .before .before .before .before .before .loop in skipped-block _ _ _ _ (l .i) (l .inv) (omega arith) (rw (← c .before .before .has16 .ensures, ← c .before .has162 .ensures) (c .if2 .left))
+loop-again c = let l = c .before .before .before .before .before .loop in
+    skipped-block _ _ _ _ (l .i) (l .inv) (omega arith)
+    (rw (← c .before .before .has16 .ensures, ← c .before .has162 .ensures) (c .if2 .left))
 
 returns-3 : tie.Need-returns-3 Inv-loop μ-loop
 returns-3 c = record { passed = c .before .loop .inv; near = λ h _. absurd (omega (arith, h)) }

@@ -36,8 +36,11 @@ loop-less c = omega arith
 loop-again : tie.Need-loop-again Inv-loop μ-loop
 loop-again c =
     let a = c .before .before .before .before .args in
-    let l = c .before .before .before .loop in
-    (omega arith, passed-one (among (a .x) (a .y)) false (a .s .now) (a .at) (l .i) (l .inv .1) (omega arith) (among-or (a .x) (a .y) _ ∙ c .if1 .left))
+    let l = c .before .before .before .loop in (
+      omega arith,
+      passed-one (among (a .x) (a .y)) false (a .s .now) (a .at) (l .i) (l .inv .1) (omega arith)
+          (among-or (a .x) (a .y) _ ∙ c .if1 .left),
+    )
 
 returns-2 : tie.Need-returns-2 Inv-loop μ-loop
 returns-2 c = record { passed = c .before .loop .inv .1; stops = λ h. absurd (omega (arith, h)) }

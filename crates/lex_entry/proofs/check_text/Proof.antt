@@ -19,10 +19,17 @@ enum-known-valid-up-to : tie.Need-enum-known-valid-up-to
 enum-known-valid-up-to c = search needs
 
 returns-2 : tie.Need-returns-2
-returns-2 c = Sound.sound (record { short = c .before .before .before .if1 .left; formed = subst (Says _) (c .enum-told .given .1) (c .before .before .check .ensures) })
+returns-2 c =
+    Sound.sound (record {
+      short = c .before .before .before .if1 .left;
+      formed =
+          subst (Says _) (c .enum-told .given .1) (c .before .before .check .ensures);
+    })
 
 returns-3 : tie.Need-returns-3
-returns-3 c = Sound.not-utf8 (c .before .before .before .before .if1 .left) (subst (Says _) (c .before .valid-up-to .given .1) (c .before .before .before .check .ensures))
+returns-3 c =
+    Sound.not-utf8 (c .before .before .before .before .if1 .left)
+    (subst (Says _) (c .before .valid-up-to .given .1) (c .before .before .before .check .ensures))
 
 pub check-text-spec : {M : Type 1} → statement M
 check-text-spec =

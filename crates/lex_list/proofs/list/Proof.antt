@@ -17,10 +17,13 @@ enum-told : tie.Need-enum-told
 enum-told c = search needs
 
 list-from-requires : tie.Need-list-from-requires
-list-from-requires c κs = let a = c .before .before .before .before .before .before .args in subst (λ (m : Entry). Meets (a .text .now) (a .start) m) (c .before .enum-told .given .1) (c .before .before .before .check .ensures)
+list-from-requires c κs = let a = c .before .before .before .before .before .before .args in
+    subst (λ (m : Entry). Meets (a .text .now) (a .start) m) (c .before .enum-told .given .1) (c .before .before .before .check .ensures)
 
 returns : tie.Need-returns
-returns c = let a = c .before .before .before .before .before .before .args in Listing.rejected (subst (λ (m : Entry). Meets (a .text .now) (a .start) m) (c .before .refusal .given .1) (c .before .before .before .check .ensures))
+returns c = let a = c .before .before .before .before .before .before .args in
+    Listing.rejected (subst (λ (m : Entry). Meets (a .text .now) (a .start) m) (c .before .refusal .given .1)
+    (c .before .before .before .check .ensures))
 
 same-length : tie.Need-same-length
 same-length c = search needs

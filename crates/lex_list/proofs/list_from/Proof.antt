@@ -1,5 +1,5 @@
--- `lex_list::list_from` meets its contract. The loop's invariant is `Goes`: the tokens up to here have been walked over, and the list begins with
--- their records; what is left of the text falls. Assumes nothing.
+-- `lex_list::list_from` meets its contract. The loop's invariant is `Goes`: the tokens up to here have been walked
+-- over, and the list begins with their records; what is left of the text falls. Assumes nothing.
 use Prim.Native.Nat.{_-_, _*_}
 use mathlib.Core.Path.{_≡_}
 use native.Mathlib.Omega.{arith}
@@ -11,7 +11,8 @@ use Rattle.lex_list.proofs.list_from.Statement.{statement}
 use Rattle.lex_list.proofs.list_from.Tie as tie
 
 abbrev Inv-loop : tie.InvT-loop
-Inv-loop text settings start budget list₀ t at₀ n₀ used₀ list at n used = Goes settings text start budget list₀ list at n × (used ≡ recordSize * n)
+Inv-loop text settings start budget list₀ t at₀ n₀ used₀ list at n used =
+    Goes settings text start budget list₀ list at n × (used ≡ recordSize * n)
 
 abbrev μ-loop : tie.MeasureT-loop
 μ-loop text settings start budget list₀ t at₀ n₀ used₀ list at n used = length text - at
@@ -62,7 +63,8 @@ returns-2 c =
     let none = c .before .before in
     let step = none .before .before in
     let l = round step in
-    goes-refused (start l .pre) (l .loop .inv .0) (step .parse-kind .ensures) (omega arith) (within-budget step .if1 .left) (none .if2 .taken)
+    goes-refused (start l .pre) (l .loop .inv .0) (step .parse-kind .ensures) (omega arith) (within-budget step .if1 .left)
+    (none .if2 .taken)
     (c .fault-at .ensures)
 
 sub-if3 : tie.Need-sub-if3 Inv-loop μ-loop
@@ -75,7 +77,8 @@ returns-3 : tie.Need-returns-3 Inv-loop μ-loop
 returns-3 c =
     let step = stepped (c .before) in
     let l = round step in
-    goes-full (start l .pre) (l .loop .inv .0) (step .parse-kind .ensures) (within-budget step .if1 .left) (c .before .if2 .left) (l .loop .inv .1)
+    goes-full (start l .pre) (l .loop .inv .0) (step .parse-kind .ensures) (within-budget step .if1 .left) (c .before .if2 .left)
+    (l .loop .inv .1)
     (c .if3 .taken)
 
 sub-put-record : tie.Need-sub-put-record Inv-loop μ-loop
@@ -103,7 +106,8 @@ loop-again c =
     let some = room c .before in
     let step = stepped some in
     let l = round step in (
-      goes-stepped (start l .pre) (l .loop .inv .0) _ (step .parse-kind .ensures) (within-budget step .if1 .left) (some .if2 .left) (l .loop .inv .1)
+      goes-stepped (start l .pre) (l .loop .inv .0) _ (step .parse-kind .ensures) (within-budget step .if1 .left) (some .if2 .left)
+          (l .loop .inv .1)
           (omega arith) (c .before .before .put-record .ensures),
       omega (arith, l .loop .inv .1),
     )

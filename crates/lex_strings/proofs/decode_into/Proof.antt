@@ -79,7 +79,8 @@ room : (c : tie.After-slice-known2 Inv-loop μ-loop) {k : ℕ} {v : List ℕ} �
 room c x = let p = start (raw c) .pre in room-on (written c) (element-onward lenient _ x) (p .0 .1) (p .1)
 
 past :
-    (c : tie.After-slice-known2 Inv-loop μ-loop) {k m : ℕ} {v e : List ℕ} → Next c k v → m ≡ length v → Put (buffer c) e (to c) v
+    (c : tie.After-slice-known2 Inv-loop μ-loop) {k m : ℕ} {v e : List ℕ} → Next c k v → m ≡ length v
+    → Put (buffer c) e (to c) v
     → Upto c (end c + k) (to c + m) e
 past c x q p = written-on (written c) (element-onward lenient _ x) q p
 
@@ -87,7 +88,8 @@ room-byte : (c : tie.After-slice-known2 Inv-loop μ-loop) {k b : ℕ} → Next c
 room-byte c x = room c x
 
 past-byte :
-    (c : tie.After-slice-known2 Inv-loop μ-loop) {k b : ℕ} → Next c k (b ∷ []) → Upto c (end c + k) (to c + 1) (set (buffer c) (to c) b)
+    (c : tie.After-slice-known2 Inv-loop μ-loop) {k b : ℕ} → Next c k (b ∷ [])
+    → Upto c (end c + k) (to c + 1) (set (buffer c) (to c) b)
 past-byte c x = past c x refl (put-one _ _ _ (omega (arith, room-byte c x)))
 
 loop-holds : tie.Need-loop-holds Inv-loop μ-loop
@@ -151,7 +153,8 @@ element-requires c κs = search needs
 enum-known-value : tie.Need-enum-known-value Inv-loop μ-loop
 enum-known-value c = search needs
 
-byte-here : (c : tie.After-known-told Inv-loop μ-loop) → let v = c .before .value .given .0 in Next (copied (byte c)) (v .1 .0) (v .0 ∷ [])
+byte-here : (c : tie.After-known-told Inv-loop μ-loop) → let v = c .before .value .given .0 in
+    Next (copied (byte c)) (v .1 .0) (v .0 ∷ [])
 byte-here c = says-byte _ _ (byte c .element .ensures) (c .before .value .given .1)
 
 past-one :

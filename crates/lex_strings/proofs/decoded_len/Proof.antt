@@ -10,7 +10,8 @@ use Rattle.wat.specs.StringModel.{encode, read}
 use Rattle.lex_escapes.specs.Elements.{Element}
 use Rattle.lex_escapes.proofs.ElementLaws.{says-byte, says-char, says-quote, says-refused}
 use Rattle.lex_strings.proofs.PassLaws.{raws-onward, element-onward}
-use Rattle.lex_strings.proofs.CopyLaws.{raws-long, never-refused, Measured, measured-none, measured-on, measured-below, measured-quote}
+use Rattle.lex_strings.proofs.CopyLaws.{raws-long, never-refused, Measured, measured-none, measured-on, measured-below}
+use Rattle.lex_strings.proofs.CopyLaws.{measured-quote}
 use Rattle.lex_strings.proofs.decoded_len.Statement.{statement}
 use Rattle.lex_strings.proofs.decoded_len.Tie as tie
 
@@ -59,7 +60,8 @@ Upto c i n = let a = start c .args in Measured (a .s .now) (a .at) i n
 measured : (c : tie.After-raw-end Inv-loop μ-loop) → Upto c (end c) (sum c)
 measured c = let r = c .raw-end .ensures in measured-on (c .before .loop .inv) (raws-onward lenient _ r) (raws-long r)
 
-past : (c : tie.After-raw-end Inv-loop μ-loop) {k m : ℕ} {v : List ℕ} → Next c k v → m ≡ length v → Upto c (end c + k) (sum c + m)
+past : (c : tie.After-raw-end Inv-loop μ-loop) {k m : ℕ} {v : List ℕ} → Next c k v → m ≡ length v
+    → Upto c (end c + k) (sum c + m)
 past c x q = measured-on (measured c) (element-onward lenient _ x) q
 
 loop-holds : tie.Need-loop-holds Inv-loop μ-loop

@@ -7,7 +7,8 @@ use lib.ListN.{length, drop, length-drop}
 use Rattle.wat.specs.StringModel.{encode, read}
 use Rattle.lex_escapes.specs.Elements.{Element, Refuses}
 use Rattle.lex_escapes.proofs.ElementLaws.{says-byte, says-char, says-quote, says-refused}
-use Rattle.lex_strings.proofs.PassLaws.{raws-onward, element-onward, Reached, reached-none, reached-on, reached-ends, reached-fails}
+use Rattle.lex_strings.proofs.PassLaws.{raws-onward, element-onward, Reached, reached-none, reached-on, reached-ends}
+use Rattle.lex_strings.proofs.PassLaws.{reached-fails}
 use Rattle.lex_strings.proofs.parse_str.Statement.{statement}
 use Rattle.lex_strings.proofs.parse_str.Tie as tie
 
@@ -108,7 +109,8 @@ loop-again-2 c = past-byte c
 enum-known-len-2 : tie.Need-enum-known-len-2 Inv-loop μ-loop
 enum-known-len-2 c = search needs
 
-char-here : (c : tie.After-known-told2 Inv-loop μ-loop) → let v = c .before .len2 .given .0 in Next (raw (char c)) (v .1 .0) (encode (v .0))
+char-here : (c : tie.After-known-told2 Inv-loop μ-loop) → let v = c .before .len2 .given .0 in
+    Next (raw (char c)) (v .1 .0) (encode (v .0))
 char-here c = says-char _ _ (char c .element .ensures) (c .before .len2 .given .1) .0
 
 past-char :

@@ -50,7 +50,8 @@ returns-3 : tie.Need-returns-3
 returns-3 c =
     let found = c .before .before .before in
     let a = start found .args in
-    λ k e. c .nothing .ensures ∙ step-fault (a .at) (searched found k ∙ ap (foundAs k (a .at) (a .end)) (c .before .enum-told2 .given .1))
+    λ k e. c .nothing .ensures
+    ∙ step-fault (a .at) (searched found k ∙ ap (foundAs k (a .at) (a .end)) (c .before .enum-told2 .given .1))
 
 pub comment-spec : {M : Type 1} → statement M
 comment-spec =

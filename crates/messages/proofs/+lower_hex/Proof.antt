@@ -62,7 +62,8 @@ lower-hex-returns : (t : ℕ) → lower-hex-lts.Need-returns (
   lower-hex-below t,
   lower-hex.Post,
 ) (lower-hex-at t) lower-hex.Post
-lower-hex-returns t c = let a = c .before .before .before .args in put-digit (a .out .now) (a .at) (a .n) (c .hex-digit .result) (omega arith) (c .hex-digit .ensures) (omega arith)
+lower-hex-returns t c = let a = c .before .before .before .args in
+    put-digit (a .out .now) (a .at) (a .n) (c .hex-digit .result) (omega arith) (c .hex-digit .ensures) (omega arith)
 
 lower-hex-lower-hex-requires : (t : ℕ) → lower-hex-lts.Need-lower-hex-requires (
   hex-digit-reads.Asked,

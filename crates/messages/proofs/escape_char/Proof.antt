@@ -28,12 +28,15 @@ add-result : tie.Need-add-result
 add-result c = omega arith
 
 same-length : tie.Need-same-length
-same-length c = let a = c .before .before .before .args in added-length (put-letter (a .out .now) (a .at) (a .c) (c .before .escape-letter .result) (c .before .escape-letter .ensures) (c .if1 .taken) (omega arith))
+same-length c = let a = c .before .before .before .args in
+    added-length (put-letter (a .out .now) (a .at) (a .c) (c .before .escape-letter .result) (c .before .escape-letter .ensures)
+    (c .if1 .taken) (omega arith))
 
 returns : tie.Need-returns
 returns c =
     let a = c .before .before .before .args in
-    put-letter (a .out .now) (a .at) (a .c) (c .before .escape-letter .result) (c .before .escape-letter .ensures) (c .if1 .taken) (omega arith)
+    put-letter (a .out .now) (a .at) (a .c) (c .before .escape-letter .result) (c .before .escape-letter .ensures) (c .if1 .taken)
+    (omega arith)
 
 cast-out : tie.Need-cast-out
 cast-out c = omega arith
@@ -58,7 +61,15 @@ slice-aggregate-append-2 c = refl
 
 append-requires-2 : tie.Need-append-requires-2
 append-requires-2 c κs =
-    omega (arith, c .before .before .before .before .before .before .before .before .append .ensures .ends, added-length (c .before .before .before .before .before .before .before .before .append .ensures), c .before .before .before .before .lower-hex .ensures .ends, added-length (c .before .before .before .before .lower-hex .ensures), hex-fits (c .before .before .before .before .before .before .before .before .before .before .before .before .before .before .before .args .c) 7 (omega arith))
+    omega (
+      arith,
+      c .before .before .before .before .before .before .before .before .append .ensures .ends,
+      added-length (c .before .before .before .before .before .before .before .before .append .ensures),
+      c .before .before .before .before .lower-hex .ensures .ends,
+      added-length (c .before .before .before .before .lower-hex .ensures),
+      hex-fits (c .before .before .before .before .before .before .before .before .before .before .before .before .before .before
+          .before .args .c) 7 (omega arith),
+    )
 
 same-length-2 : tie.Need-same-length-2
 same-length-2 c = let a = c .before .before .before .before .before .args in length-set (a .out .now) (a .at) (a .c)
@@ -66,17 +77,30 @@ same-length-2 c = let a = c .before .before .before .before .before .args in len
 returns-2 : tie.Need-returns-2
 returns-2 c =
     let a = c .before .before .before .before .before .args in
-    rw (shown-raw (a .c) (unlettered (a .c) (c .before .before .before .escape-letter .ensures) (c .before .before .if1 .left)) (between-in 0x20 0x7E (a .c) (omega arith) (omega arith))) (added-one (a .out .now) (a .at) (a .c) (omega arith))
+    rw (shown-raw (a .c) (unlettered (a .c) (c .before .before .before .escape-letter .ensures) (c .before .before .if1 .left))
+    (between-in 0x20 0x7E (a .c) (omega arith) (omega arith))) (added-one (a .out .now) (a .at) (a .c) (omega arith))
 
 same-length-3 : tie.Need-same-length-3
-same-length-3 c = added-length (added-then (c .before .before .before .before .before .before .before .before .before .before .before .append .ensures) (added-then (c .before .before .before .before .before .before .before .lower-hex .ensures) (c .before .before .append2 .ensures)))
+same-length-3 c =
+    added-length (added-then (c .before .before .before .before .before .before .before .before .before .before .before .append
+    .ensures) (added-then (c .before .before .before .before .before .before .before .lower-hex .ensures)
+    (c .before .before .append2 .ensures)))
 
 returns-3 : tie.Need-returns-3
 returns-3 c =
-    let x = c .before .before .before .before .before .before .before .before .before .before .before .before .before .before .before .before .before .before .args .c in
+    let x =
+    c .before .before .before .before .before .before .before .before .before .before .before .before .before .before .before
+    .before .before .before .args .c in
     let r : between 0x20 0x7E x ≡ false =
-    ⊎-elim (λ t. between-under 0x20 0x7E x (omega (arith, t .taken))) (λ t. between-over 0x20 0x7E x (omega (arith, t .1 .left))) (c .before .before .before .before .before .before .before .before .before .before .before .before .before .before .if2 .came) in
-    rw (shown-hex x (unlettered x (c .before .before .before .before .before .before .before .before .before .before .before .before .before .before .before .before .escape-letter .ensures) (c .before .before .before .before .before .before .before .before .before .before .before .before .before .before .before .if1 .left)) r) (added-then (c .before .before .before .before .before .before .before .before .before .before .before .append .ensures) (added-then (c .before .before .before .before .before .before .before .lower-hex .ensures) (c .before .before .append2 .ensures)))
+    ⊎-elim (λ t. between-under 0x20 0x7E x (omega (arith, t .taken))) (λ t. between-over 0x20 0x7E x (omega (arith, t .1 .left)))
+    (c .before .before .before .before .before .before .before .before .before .before .before .before .before .before .if2 .came) in
+    rw (shown-hex x (unlettered x
+    (c .before .before .before .before .before .before .before .before .before .before .before .before .before .before .before
+    .before .escape-letter .ensures)
+    (c .before .before .before .before .before .before .before .before .before .before .before .before .before .before .before
+    .if1 .left)) r) (added-then
+    (c .before .before .before .before .before .before .before .before .before .before .before .append .ensures)
+    (added-then (c .before .before .before .before .before .before .before .lower-hex .ensures) (c .before .before .append2 .ensures)))
 
 pub escape-char-spec : {M : Type 1} → statement M
 escape-char-spec =

@@ -26,10 +26,14 @@ quoted-requires c κs =
     omega (arith, shown .ends, added-length shown, but .ends, added-length but, shown-fits x 7 (omega arith))
 
 same-length : tie.Need-same-length
-same-length c = added-length (added-then (c .before .before .before .before .before .before .before .before .before .before .before .escape-char .ensures) (added-then (c .before .before .before .before .before .before .append .ensures) (c .before .before .quoted .ensures)))
+same-length c =
+    added-length (added-then (c .before .before .before .before .before .before .before .before .before .before .before .escape-char
+    .ensures) (added-then (c .before .before .before .before .before .before .append .ensures) (c .before .before .quoted .ensures)))
 
 returns : tie.Need-returns
-returns c = added-then (c .before .before .before .before .before .before .before .before .before .before .before .escape-char .ensures) (added-then (c .before .before .before .before .before .before .append .ensures) (c .before .before .quoted .ensures))
+returns c =
+    added-then (c .before .before .before .before .before .before .before .before .before .before .before .escape-char .ensures)
+    (added-then (c .before .before .before .before .before .before .append .ensures) (c .before .before .quoted .ensures))
 
 pub expected-spec : {M : Type 1} → statement M
 expected-spec =

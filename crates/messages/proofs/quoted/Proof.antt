@@ -19,10 +19,13 @@ append-requires c κs =
     omega (arith, shown .ends, added-length shown, shown-fits x 7 (omega arith))
 
 same-length : tie.Need-same-length
-same-length c = added-length (added-then (c .before .before .before .before .before .before .before .escape-char .ensures) (c .before .before .append .ensures))
+same-length c =
+    added-length (added-then (c .before .before .before .before .before .before .before .escape-char .ensures)
+    (c .before .before .append .ensures))
 
 returns : tie.Need-returns
-returns c = added-then (c .before .before .before .before .before .before .before .escape-char .ensures) (c .before .before .append .ensures)
+returns c =
+    added-then (c .before .before .before .before .before .before .before .escape-char .ensures) (c .before .before .append .ensures)
 
 pub quoted-spec : {M : Type 1} → statement M
 quoted-spec = tie.close (tie.spec escape-char-requires slice-aggregate-append append-requires same-length returns)

@@ -97,7 +97,9 @@ returns-10 : tie.Need-returns-10
 returns-10 c = by-nobody (c .before .before .before .match .rest) (c .before .before .present .ensures) (c .enum-told .given .1)
 
 returns-11 : tie.Need-returns-11
-returns-11 c = by-nobody-missing (c .before .before .before .before .match .rest) (c .before .before .before .present .ensures) (c .before .refusal .given .1)
+returns-11 c =
+    by-nobody-missing (c .before .before .before .before .match .rest) (c .before .before .before .present .ensures)
+    (c .before .refusal .given .1)
 
 pub read-spec : {M : Type 1} → statement M
 read-spec =

@@ -7,7 +7,8 @@ use native.Mathlib.Omega.{arith}
 use lib.ListN.{getD}
 use lib.Seq.{slice}
 use Rattle.wat_values.specs.Values.{bare}
-use Rattle.read_copies.proofs.CopyLaws.{bare-off, bare-on, bare-end, Written, written-none, written-off, written-room, written-on, written-length, written-all}
+use Rattle.read_copies.proofs.CopyLaws.{bare-off, bare-on, bare-end, Written, written-none, written-off, written-room}
+use Rattle.read_copies.proofs.CopyLaws.{written-on, written-length, written-all}
 use Rattle.read_copies.proofs.bare_into.Statement.{statement}
 use Rattle.read_copies.proofs.bare_into.Tie as tie
 
@@ -17,7 +18,8 @@ Inv-loop text from to buffer₀ at n₀ i₀ buffer n i = (i ≤ to) × Written 
 abbrev μ-loop : tie.MeasureT-loop
 μ-loop text from to buffer₀ at n₀ i₀ buffer n i = to - i
 
-kept-byte : (c : tie.Else1 Inv-loop μ-loop) → let a = c .before .before .before .before .args in let i = c .before .before .before .loop .i in
+kept-byte : (c : tie.Else1 Inv-loop μ-loop) → let a = c .before .before .before .before .args in let i =
+    c .before .before .before .loop .i in
     bare (slice i (a .to) (a .text .now)) ≡ getD (a .text .now) i 0 ∷ bare (slice (i + 1) (a .to) (a .text .now))
 kept-byte c =
     let a = c .before .before .before .before .args in

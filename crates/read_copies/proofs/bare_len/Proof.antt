@@ -1,5 +1,5 @@
--- `read_copies::bare_len` meets its contract. The invariant: what is counted, and what is bare of the bytes from `i` on, are as many as all that is bare.
--- Assumes nothing.
+-- `read_copies::bare_len` meets its contract. The invariant: what is counted, and what is bare of the bytes from `i`
+-- on, are as many as all that is bare. Assumes nothing.
 use Prim.Native.Nat.{_+_, _-_, _≤_}
 use mathlib.Core.Path.{_≡_, ap}
 use native.Mathlib.Omega.{arith}
@@ -11,7 +11,8 @@ use Rattle.read_copies.proofs.bare_len.Statement.{statement}
 use Rattle.read_copies.proofs.bare_len.Tie as tie
 
 abbrev Inv-loop : tie.InvT-loop
-Inv-loop text from to n₀ i₀ n i = (from ≤ i) × (i ≤ to) × (n ≤ i - from) × (n + length (bare (slice i to text)) ≡ length (bare (slice from to text)))
+Inv-loop text from to n₀ i₀ n i =
+    (from ≤ i) × (i ≤ to) × (n ≤ i - from) × (n + length (bare (slice i to text)) ≡ length (bare (slice from to text)))
 
 abbrev μ-loop : tie.MeasureT-loop
 μ-loop text from to n₀ i₀ n i = to - i
@@ -31,7 +32,11 @@ loop-less c = omega arith
 loop-again : tie.Need-loop-again Inv-loop μ-loop
 loop-again c =
     let a = c .before .before .before .before .args in
-    omega (arith, ap length (bare-off (a .text .now) (c .before .before .before .loop .i) (a .to) (omega arith) (omega arith) (omega arith)))
+    omega (
+      arith,
+      ap length (bare-off (a .text .now) (c .before .before .before .loop .i) (a .to) (omega arith) (omega arith)
+          (omega arith)),
+    )
 
 add-n : tie.Need-add-n Inv-loop μ-loop
 add-n c = omega arith
@@ -45,11 +50,16 @@ loop-less-2 c = omega arith
 loop-again-2 : tie.Need-loop-again-2 Inv-loop μ-loop
 loop-again-2 c =
     let a = c .before .before .before .before .args in
-    omega (arith, ap length (bare-on (a .text .now) (c .before .before .before .loop .i) (a .to) (omega arith) (omega arith) (c .if1 .left)))
+    omega (
+      arith,
+      ap length (bare-on (a .text .now) (c .before .before .before .loop .i) (a .to) (omega arith) (omega arith)
+          (c .if1 .left)),
+    )
 
 returns : tie.Need-returns Inv-loop μ-loop
 returns c =
-    let a = c .before .before .args in omega (arith, ap length (bare-end (a .text .now) (c .before .loop .i) (a .to) (omega arith) (omega arith)))
+    let a = c .before .before .args in
+    omega (arith, ap length (bare-end (a .text .now) (c .before .loop .i) (a .to) (omega arith) (omega arith)))
 
 pub bare-len-spec : {M : Type 1} → statement M
 bare-len-spec =

@@ -38,7 +38,8 @@ returns-2 : tie.Need-returns-2
 returns-2 c =
     let n = c .before .before .before .before .before .before .before .before .before .before .kept-len in
     λ o.
-    copied _ _ _ _ _ (c .before .before .before .before .before .before .put-sign .ensures) (c .before .before .bare-into .ensures) (n .ensures)
+    copied _ _ _ _ _ (c .before .before .before .before .before .before .put-sign .ensures) (c .before .before .bare-into .ensures)
+    (n .ensures)
     (ap (λ (z : ℕ). n .result + z) (c .before .before .before .before .before .before .before .before .before .bare-len .ensures .0))
 
 pub copy-spec : {M : Type 1} → statement M

@@ -29,7 +29,8 @@ returns-2 c =
     let a = c .before .before .before .before .args in
     let l = length-slice (a .from) (a .to) (a .text .now) (omega arith) in
     λ o n b.
-    in-text o n (a .copied) (slice (a .from) (a .to) (a .text .now)) (a .buffer .now) (c .before .if1 .left) (b (c .before .if1 .left)) (omega arith)
+    in-text o n (a .copied) (slice (a .from) (a .to) (a .text .now)) (a .buffer .now) (c .before .if1 .left)
+    (b (c .before .if1 .left)) (omega arith)
     (omega arith)
 
 pub hand-spec : {M : Type 1} → statement M

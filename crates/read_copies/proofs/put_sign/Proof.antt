@@ -38,7 +38,8 @@ same-length c = simp length-set
 returns-3 : tie.Need-returns-3
 returns-3 c =
     let b = c .before .before .args .buffer .now in
-    subst (λ (s : Sign). Put b (set b 0 (byte "-")) 0 (kept s)) (sym (c .enum-told3 .given .1)) (put-one b 0 (byte "-") (slice-write-buffer c))
+    subst (λ (s : Sign). Put b (set b 0 (byte "-")) 0 (kept s)) (sym (c .enum-told3 .given .1))
+    (put-one b 0 (byte "-") (slice-write-buffer c))
 
 pub put-sign-spec : {M : Type 1} → statement M
 put-sign-spec =

@@ -37,12 +37,14 @@ add-end : tie.Need-add-end
 add-end c = let w = there-fits (here (c .before) .0) in omega arith
 
 float-requires : tie.Need-float-requires
-float-requires c κs = let h = here (c .before .before) in record { order = omega arith; fits = there-fits (h .0); is = there-slice (h .0) (h .1) }
+float-requires c κs = let h = here (c .before .before) in
+    record { order = omega arith; fits = there-fits (h .0); is = there-slice (h .0) (h .1) }
 
 returns : tie.Need-returns
 returns c =
     let a = c .before .before .before .before .before .before .args in
-    float-denied (subst (HereNumber (a .text .now) (a .token)) (c .before .refusal .given .1) (c .before .before .before .number-kind .ensures))
+    float-denied (subst (HereNumber (a .text .now) (a .token)) (c .before .refusal .given .1)
+    (c .before .before .before .number-kind .ensures))
 
 returns-2 : tie.Need-returns-2
 returns-2 c =

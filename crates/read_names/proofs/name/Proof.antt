@@ -35,7 +35,8 @@ same-length : tie.Need-same-length
 same-length c = search needs
 
 returns-3 : tie.Need-returns-3
-returns-3 c = names-empty _ _ (c .before .before .before .before .before .before .quoted .ensures) (c .before .before .start .given .1) (omega arith)
+returns-3 c =
+    names-empty _ _ (c .before .before .before .before .before .before .quoted .ensures) (c .before .before .start .given .1) (omega arith)
 
 enum-known-n : tie.Need-enum-known-n
 enum-known-n c = search needs
@@ -68,7 +69,8 @@ same-length-2 : tie.Need-same-length-2
 same-length-2 c = search needs
 
 returns-4 : tie.Need-returns-4
-returns-4 c = names-text _ _ (c .before .before .before .before .before .before .quoted .ensures) (c .before .before .start .given .1) (c .if3 .left)
+returns-4 c =
+    names-text _ _ (c .before .before .before .before .before .before .quoted .ensures) (c .before .before .start .given .1) (c .if3 .left)
 
 same-length-3 : tie.Need-same-length-3
 same-length-3 c = search needs

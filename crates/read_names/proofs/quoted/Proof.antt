@@ -48,7 +48,8 @@ returns-3 c =
     let m = c .before .before .before .before .before in
     let k = m .before .before in
     let f = not-false _ (m .before .if1 .left) in
-    quoted-copied (k .before .before .before .pre) (k .has-escape .ensures) _ f (m .decoded-len .ensures) (omega arith) (c .before .before .decode-into .ensures)
+    quoted-copied (k .before .before .before .pre) (k .has-escape .ensures) _ f (m .decoded-len .ensures) (omega arith)
+    (c .before .before .decode-into .ensures)
 
 pub quoted-spec : {M : Type 1} → statement M
 quoted-spec =

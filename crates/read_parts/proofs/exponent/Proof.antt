@@ -43,7 +43,8 @@ returns c =
 
 -- a mark is there
 marked : (c : tie.Else1)
-    → let a = c .before .before .before .before .before .before .args in (c .before .end-of .result < a .end) × (a .end ≤ length (a .text .now))
+    → let a = c .before .before .before .before .before .before .args in
+    (c .before .end-of .result < a .end) × (a .end ≤ length (a .text .now))
 marked c =
     let s = c .before .before .before .before .before .before in
     let l = leaves-within (number s) (λ p f e. e) (ends (c .before)) in
@@ -71,7 +72,8 @@ hand-requires c κs =
     let g = c .before .before .sign-at .ensures in (
       p .within,
       s .pre .fits,
-      sign-before (s .args .text .now) (m .end-of .result + 1) (n .result) (s .args .end) (s .pre .fits) g (omega arith) (p .same) (p .within),
+      sign-before (s .args .text .now) (m .end-of .result + 1) (n .result) (s .args .end) (s .pre .fits) g (omega arith) (p .same)
+          (p .within),
     )
 
 same-length : tie.Need-same-length

@@ -17,7 +17,9 @@ cast-len : tie.Need-cast-len
 cast-len c = search needs
 
 name-requires : tie.Need-name-requires
-name-requires c κs = name-sigiled annotation-naming (taken-there (c .before .before .before .before .taken .ensures) (c .before .before .enum-told .given .1))
+name-requires c κs =
+    name-sigiled annotation-naming
+    (taken-there (c .before .before .before .before .taken .ensures) (c .before .before .enum-told .given .1))
 
 returns : tie.Need-returns
 returns c = taken-refused _ _ (annotation-naming .only) (c .before .before .before .taken .ensures) (c .before .refusal .given .1)
@@ -28,7 +30,8 @@ same-length c = search needs
 returns-2 : tie.Need-returns-2
 returns-2 c =
     let k = c .before .before .before .before .before .before .before in
-    name-reads annotation-naming (taken-there (k .taken .ensures) (c .before .before .before .before .before .enum-told .given .1)) (c .before .before .name .ensures)
+    name-reads annotation-naming (taken-there (k .taken .ensures) (c .before .before .before .before .before .enum-told .given .1))
+    (c .before .before .name .ensures)
 
 pub annotation-spec : {M : Type 1} → statement M
 annotation-spec =

@@ -17,7 +17,8 @@ cast-len : tie.Need-cast-len
 cast-len c = search needs
 
 name-requires : tie.Need-name-requires
-name-requires c κs = name-sigiled id-naming (taken-there (c .before .before .before .before .taken .ensures) (c .before .before .enum-told .given .1))
+name-requires c κs =
+    name-sigiled id-naming (taken-there (c .before .before .before .before .taken .ensures) (c .before .before .enum-told .given .1))
 
 returns : tie.Need-returns
 returns c = taken-refused _ _ (id-naming .only) (c .before .before .before .taken .ensures) (c .before .refusal .given .1)
@@ -28,7 +29,8 @@ same-length c = search needs
 returns-2 : tie.Need-returns-2
 returns-2 c =
     let k = c .before .before .before .before .before .before .before in
-    name-reads id-naming (taken-there (k .taken .ensures) (c .before .before .before .before .before .enum-told .given .1)) (c .before .before .name .ensures)
+    name-reads id-naming (taken-there (k .taken .ensures) (c .before .before .before .before .before .enum-told .given .1))
+    (c .before .before .name .ensures)
 
 pub id-spec : {M : Type 1} → statement M
 id-spec =

@@ -17,7 +17,8 @@ cast-len : tie.Need-cast-len
 cast-len c = search needs
 
 quoted-requires : tie.Need-quoted-requires
-quoted-requires c κs = string-quoted (taken-there (c .before .before .before .before .taken .ensures) (c .before .before .enum-told .given .1))
+quoted-requires c κs =
+    string-quoted (taken-there (c .before .before .before .before .taken .ensures) (c .before .before .enum-told .given .1))
 
 returns : tie.Need-returns
 returns c = taken-refused _ _ only-string (c .before .before .before .taken .ensures) (c .before .refusal .given .1)
@@ -28,7 +29,8 @@ same-length c = search needs
 returns-2 : tie.Need-returns-2
 returns-2 c =
     let k = c .before .before .before .before .before .before .before in
-    string-reads (taken-there (k .taken .ensures) (c .before .before .before .before .before .enum-told .given .1)) (c .before .before .quoted .ensures)
+    string-reads (taken-there (k .taken .ensures) (c .before .before .before .before .before .enum-told .given .1))
+    (c .before .before .quoted .ensures)
 
 pub string-spec : {M : Type 1} → statement M
 string-spec =

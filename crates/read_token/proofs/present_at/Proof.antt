@@ -21,7 +21,8 @@ kind-number-requires c κs = tt
 returns-2 : tie.Need-returns-2
 returns-2 c =
     let s = c .before .before .before .before .before .before .before .before .pre in
-    other-kind-there _ _ s (c .before .before .before .parse-kind .ensures) (λ e. c .if2 .taken (e ∙ sym (c .before .before .kind-number .ensures)))
+    other-kind-there _ _ s (c .before .before .before .parse-kind .ensures)
+    (λ e. c .if2 .taken (e ∙ sym (c .before .before .kind-number .ensures)))
 
 sub-if3 : tie.Need-sub-if3
 sub-if3 c =

@@ -38,7 +38,8 @@ array-borrow-prefix-buffer : tie.Need-array-borrow-prefix-buffer
 array-borrow-prefix-buffer c = search needs
 
 slice-aggregate-read : tie.Need-slice-aggregate-read
-slice-aggregate-read c = sym (length-take-le (c .before .before .before .before .before .before .before .before .wide .result) (replicate 64 238) (omega arith))
+slice-aggregate-read c =
+    sym (length-take-le (c .before .before .before .before .before .before .before .before .wide .result) (replicate 64 238) (omega arith))
 
 read-requires : tie.Need-read-requires
 read-requires c κs = search needs

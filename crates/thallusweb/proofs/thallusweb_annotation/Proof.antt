@@ -14,7 +14,9 @@ found-words-requires : tie.Need-found-words-requires
 found-words-requires c κs = search needs
 
 returns : tie.Need-returns
-returns c = annotated-words (c .before .before .before .before .args .settings) (c .before .before .settings-of .ensures) (c .before .annotation .result) (c .before .annotation .ensures) (c .found-words .ensures)
+returns c =
+    annotated-words (c .before .before .before .before .args .settings) (c .before .before .settings-of .ensures)
+    (c .before .annotation .result) (c .before .annotation .ensures) (c .found-words .ensures)
 
 pub thallusweb-annotation-spec : {M : Type 1} → statement M
 thallusweb-annotation-spec = tie.close (tie.spec settings-of-requires annotation-requires found-words-requires returns)

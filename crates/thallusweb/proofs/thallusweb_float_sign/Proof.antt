@@ -14,7 +14,9 @@ float-sign-words-requires : tie.Need-float-sign-words-requires
 float-sign-words-requires c κs = search needs
 
 returns : tie.Need-returns
-returns c = float-words (c .before .float-sign .result) (c .before .before .token-of .ensures) (c .before .float-sign .ensures) (c .float-sign-words .ensures)
+returns c =
+    float-words (c .before .float-sign .result) (c .before .before .token-of .ensures) (c .before .float-sign .ensures)
+    (c .float-sign-words .ensures)
 
 pub thallusweb-float-sign-spec : {M : Type 1} → statement M
 thallusweb-float-sign-spec =

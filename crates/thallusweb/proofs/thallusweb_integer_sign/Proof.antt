@@ -14,7 +14,9 @@ integer-sign-words-requires : tie.Need-integer-sign-words-requires
 integer-sign-words-requires c κs = search needs
 
 returns : tie.Need-returns
-returns c = integer-words (c .before .integer-sign .result) (c .before .before .token-of .ensures) (c .before .integer-sign .ensures) (c .integer-sign-words .ensures)
+returns c =
+    integer-words (c .before .integer-sign .result) (c .before .before .token-of .ensures) (c .before .integer-sign .ensures)
+    (c .integer-sign-words .ensures)
 
 pub thallusweb-integer-sign-spec : {M : Type 1} → statement M
 thallusweb-integer-sign-spec =

@@ -17,7 +17,9 @@ same-length : tie.Need-same-length
 same-length c = search needs
 
 returns : tie.Need-returns
-returns c = listed-words (c .before .before .before .before .before .before .before .before .args .settings) (c .before .before .before .before .before .settings-of .ensures) (c .before .before .before .list .ensures) (c .listed-words .ensures)
+returns c =
+    listed-words (c .before .before .before .before .before .before .before .before .args .settings)
+    (c .before .before .before .before .before .settings-of .ensures) (c .before .before .before .list .ensures) (c .listed-words .ensures)
 
 pub thallusweb-list-spec : {M : Type 1} → statement M
 thallusweb-list-spec = tie.close (tie.spec settings-of-requires list-requires listed-words-requires same-length returns)

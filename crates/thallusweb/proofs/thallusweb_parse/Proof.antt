@@ -14,7 +14,9 @@ parsed-words-requires : tie.Need-parsed-words-requires
 parsed-words-requires c κs = search needs
 
 returns : tie.Need-returns
-returns c = parsed-words (c .before .before .before .before .args .settings) (c .before .before .settings-of .ensures) (c .before .parse .ensures) (c .parsed-words .ensures)
+returns c =
+    parsed-words (c .before .before .before .before .args .settings) (c .before .before .settings-of .ensures)
+    (c .before .parse .ensures) (c .parsed-words .ensures)
 
 pub thallusweb-parse-spec : {M : Type 1} → statement M
 thallusweb-parse-spec = tie.close (tie.spec settings-of-requires parse-requires parsed-words-requires returns)

@@ -17,7 +17,9 @@ same-length : tie.Need-same-length
 same-length c = search needs
 
 returns : tie.Need-returns
-returns c = read-words (c .before .before .before .read .result) (c .before .before .before .before .before .token-of .ensures) (c .before .before .before .read .ensures) (c .reading-words .ensures)
+returns c =
+    read-words (c .before .before .before .read .result) (c .before .before .before .before .before .token-of .ensures)
+    (c .before .before .before .read .ensures) (c .reading-words .ensures)
 
 pub thallusweb-read-spec : {M : Type 1} → statement M
 thallusweb-read-spec =

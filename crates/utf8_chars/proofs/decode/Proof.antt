@@ -16,7 +16,8 @@ start c = c .before .before .before
 abbrev known : tie.After-known-told → tie.After-front-at
 known c = c .before .before .before
 
-whole : (c : tie.After-known-told) → let a = start (known c) .args in front (drop (a .at) (a .s .now)) ≡ Whole (c .before .n .given .0 .0)
+whole : (c : tie.After-known-told) → let a = start (known c) .args in
+    front (drop (a .at) (a .s .now)) ≡ Whole (c .before .n .given .0 .0)
 whole c = sym (known c .front-at .ensures) ∙ c .before .n .given .1
 
 returns : tie.Need-returns

@@ -19,7 +19,8 @@ start c = c .before .before .before .before
 -- past the second byte
 passed :
     (c : tie.Else2) → let a = start (c .before) .args in
-    follow 1 (a .lo ‥ a .hi ∷ trailing (a .n)) (drop (a .at + 1) (a .s .now)) ≡ follow 2 (trailing (a .n)) (drop (a .at + 2) (a .s .now))
+    follow 1 (a .lo ‥ a .hi ∷ trailing (a .n)) (drop (a .at + 1) (a .s .now)) ≡ follow 2 (trailing (a .n))
+    (drop (a .at + 2) (a .s .now))
 passed c =
     let w = c .before in
     let a = start w .args in

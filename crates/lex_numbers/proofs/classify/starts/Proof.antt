@@ -1,5 +1,5 @@
--- `lex_numbers::classify::starts` meets its contract. The invariant: what is left of the word is to be stripped from what is left of the text.
--- Assumes nothing.
+-- `lex_numbers::classify::starts` meets its contract. The invariant: what is left of the word is to be stripped from
+-- what is left of the text. Assumes nothing.
 use Prim.Native.Nat.{_-_}
 use native.Mathlib.Omega.{arith}
 use lib.ListN.{length}

@@ -1,6 +1,6 @@
--- `lex_struct::Lexer::annotation` meets its contract: a walk of its MIR, by hand. The lexer is looked into, and `lex_calls::annotation` is called on its text,
--- its settings and the position; all that the proof knows of it is that it meets its contract.
--- Assumes nothing.
+-- `lex_struct::Lexer::annotation` meets its contract: a walk of its MIR, by hand. The lexer is looked into, and
+-- `lex_calls::annotation` is called on its text, its settings and the position; all that the proof knows of it is that
+-- it meets its contract. Assumes nothing.
 use mathlib.Core.Path.{refl}
 use Prim.Native.Nat.{ℕ, _<_, _^_}
 use mathlib.Core.List.{List, [], _∷_}
@@ -16,10 +16,12 @@ use ghost.Atoms.{Atoms, sem}
 use contract.Lifetimes.{AllOutlive}
 use contract.Monad.{Fun, fact}
 use contract.Running.{givenOf, tables, tablesOf}
-use types.Kit.{Given, Item, ‵, raw, _⊛_, ⋆, some, later, _$_, _∵_, !, qed, by, move, drop, use1, use2, split, join, pick, fsplit, fsplit3, fjoin}
+use types.Kit.{Given, Item, ‵, raw, _⊛_, ⋆, some, later, _$_, _∵_, !, qed, by, move, drop, use1, use2, split, join, pick}
+use types.Kit.{fsplit, fsplit3, fjoin}
 use types.Kit.{fjoin3, feqI, suffices, frame, await, done}
 use types.Part.{whole, sub, look-in}
-use types.Run.{look, init, forget, stop, hop, fld, from, load, of-opd, and-then, no-more, assigns, land, returns, enter, alloc1, alloc0, params1}
+use types.Run.{look, init, forget, stop, hop, fld, from, load, of-opd, and-then, no-more, assigns, land, returns, enter, alloc1, alloc0}
+use types.Run.{params1}
 use types.Run.{pass1, pass0, free1, free0}
 use sound.WpLaws.{FmC, fmOf, WpFn-mono}
 use denote.RattleType.{owns}
@@ -69,8 +71,10 @@ module _ {M : Type 1} (𝓤 : URA M) (H : Heap 𝓤) (A : Atoms 𝓤) (mem : Mem
   abbrev Callee : Contract 𝓤
   Callee = tripleOf 𝓤 H A callee.signature (callee.spec 𝓤 H A mem run)
 
-module _ {M : Type 1} (𝓤 : URA M) (H : Heap 𝓤) (A : Atoms 𝓤) (W : Given 𝓤 H A) (mem : Memory → SProp 𝓤) (run : Routine → Fun 𝓤)
-    (κ κ′ : Lft) (q q′ : Share) (bounds : AllOutlive 2 (annotation.signature .outlives) (κ, (κ′, tt))) (b o : ℕ) (γ : GName) (d : Lexer) (n : ℕ)
+module _ {M : Type 1} (𝓤 : URA M) (H : Heap 𝓤) (A : Atoms 𝓤) (W : Given 𝓤 H A) (mem : Memory → SProp 𝓤)
+    (run : Routine → Fun 𝓤)
+    (κ κ′ : Lft) (q q′ : Share) (bounds : AllOutlive 2 (annotation.signature .outlives) (κ, (κ′, tt))) (b o : ℕ)
+    (γ : GName) (d : Lexer) (n : ℕ)
     (ok : n < 2 ^ 64) where
   abbrev x : RefT Lexer × (ℕ × Unit {0})
   x = (record { ptr = (b, o); name = γ; now = d }, (n, tt))
@@ -82,7 +86,8 @@ module _ {M : Type 1} (𝓤 : URA M) (H : Heap 𝓤) (A : Atoms 𝓤) (W : Given
   Right = Annotates (d .settings) (now (d .text)) n
 
   abbrev Post : Val → SProp 𝓤
-  Post = walkOf 𝓤 H A annotation.ended stayed (annotation.clauses 𝓤 H A mem run) .post (((κ, (κ′, tt)), (q, (q′, tt)), bounds, x, at), tt)
+  Post = walkOf 𝓤 H A annotation.ended stayed (annotation.clauses 𝓤 H A mem run) .post
+      (((κ, (κ′, tt)), (q, (q′, tt)), bounds, x, at), tt)
 
   -- what the callee is passed
   abbrev args : RefT (List ℕ) × (Settings × (ℕ × Unit {0}))
@@ -95,7 +100,9 @@ module _ {M : Type 1} (𝓤 : URA M) (H : Heap 𝓤) (A : Atoms 𝓤) (W : Given
   to = (((κ′, tt), (q′, tt), tt, args, passed), tt)
 
   asked : ent 𝓤 (onEntry 𝓤 H A callee.signature (κ′, tt) (q′, tt) args passed) (Callee 𝓤 H A mem run .pre to)
-  asked = qed W ((‵ (flft κ′ q′) ⊛ ‵ ftrue) ∷ ‵ (owns (ShrSlice (named 0) κ′ u8 ∷ settings-row ∷ usize ∷ []) args passed) ∷ []) ∵ join ! $
+  asked =
+      qed W ((‵ (flft κ′ q′) ⊛ ‵ ftrue) ∷ ‵
+      (owns (ShrSlice (named 0) κ′ u8 ∷ settings-row ∷ usize ∷ []) args passed) ∷ []) ∵ join ! $
       frame ! $ done !
 
   -- what the callee gives back
@@ -104,17 +111,21 @@ module _ {M : Type 1} (𝓤 : URA M) (H : Heap 𝓤) (A : Atoms 𝓤) (W : Given
       ⊛ raw (ensured 𝓤 H A callee.ended (callee.clauses 𝓤 H A mem run) (κ′, tt) args tt r)
 
   -- of the callee's `ensured`, the clause alone: it has no `&mut`, so what is said of last values is dropped
-  said : (r : Found) → ent 𝓤 (ensured 𝓤 H A callee.ended (callee.clauses 𝓤 H A mem run) (κ′, tt) args tt r) (fact 𝓤 (Right r))
+  said : (r : Found) → ent 𝓤 (ensured 𝓤 H A callee.ended (callee.clauses 𝓤 H A mem run) (κ′, tt) args tt r)
+      (fact 𝓤 (Right r))
   said r = exE 𝓤 _ (λ ws. snd∗ 𝓤 (sem 𝓤 H A (lasts callee.ended (κ′, tt) args ws)) (fact 𝓤 (Right r)))
 
   -- what is had where the result has landed
   abbrev Left : Found → Val → List (Item 𝓤)
-  Left r u = ‵ (S.the-row .own r (u ∷ [])) ∷ (‵ (flft κ′ q′) ⊛ ‵ ftrue) ∷ ‵ (flft κ q) ∷ ‵ (Lent κ κ′ d b o) ∷ ‵ (fres γ (Row κ′ .coded .code d)) ∷ []
+  Left r u =
+      ‵ (S.the-row .own r (u ∷ [])) ∷ (‵ (flft κ′ q′) ⊛ ‵ ftrue) ∷ ‵ (flft κ q) ∷ ‵
+      (Lent κ κ′ d b o) ∷ ‵ (fres γ (Row κ′ .coded .code d)) ∷ []
 
   exits : (r : Found) (u : Val) → Right r → ent 𝓤 (⋆ 𝓤 H A (Left r u)) (Post u)
   exits r u e =
       qed W (Left r u) ∵
-      suffices ! _ (ends-at 𝓤 H A annotation.ended stayed (annotation.clauses 𝓤 H A mem run) W (((κ, (κ′, tt)), (q, (q′, tt)), bounds, x, at), tt)
+      suffices ! _ (ends-at 𝓤 H A annotation.ended stayed (annotation.clauses 𝓤 H A mem run) W
+      (((κ, (κ′, tt)), (q, (q′, tt)), bounds, x, at), tt)
       u r (tt, (tt, tt)) (tt, (tt, tt))) $ says ! e $
       move ! (2 ∷ 1 ∷ []) $ join ! $ frame ! $
       -- [the result; the loan; res]
@@ -122,16 +133,21 @@ module _ {M : Type 1} (𝓤 : URA M) (H : Heap 𝓤) (A : Atoms 𝓤) (W : Given
       owned ! usize (Is usize) (uint-makes 𝓤 H A W w64) n _ (refl, ok) $ fjoin ! $
       move ! (1 ∷ 0 ∷ []) $ fjoin ! $ frame ! $ done !
 
-  module _ (C : Calls 𝓤 H) (Λ : Loops 𝓤 H) (fm : FmC 𝓤 H (W .laws) C) (known : Triple 𝓤 (C #lex-calls·annotation) (Callee 𝓤 H A mem run)) where
-    walk : ent 𝓤 (onEntry 𝓤 H A annotation.signature (κ, (κ′, tt)) (q, (q′, tt)) x at) (WpFn 𝓤 H C Λ code.function (vptr b o ∷ vint w64 n ∷ []) Post)
+  module _ (C : Calls 𝓤 H) (Λ : Loops 𝓤 H) (fm : FmC 𝓤 H (W .laws) C)
+      (known : Triple 𝓤 (C #lex-calls·annotation) (Callee 𝓤 H A mem run)) where
+    walk : ent 𝓤 (onEntry 𝓤 H A annotation.signature (κ, (κ′, tt)) (q, (q′, tt)) x at)
+        (WpFn 𝓤 H C Λ code.function (vptr b o ∷ vint w64 n ∷ []) Post)
     walk =
-        qed W ((‵ (flft κ q) ⊛ ‵ (flft κ′ q′) ⊛ ‵ ftrue) ∷ ‵ (owns (ShrRef (named 0) κ (Row κ′) ∷ usize ∷ []) x at) ∷ []) ∵
+        qed W ((‵ (flft κ q) ⊛ ‵ (flft κ′ q′) ⊛ ‵ ftrue) ∷ ‵
+        (owns (ShrRef (named 0) κ (Row κ′) ∷ usize ∷ []) x at) ∷ []) ∵
         enter ! C Λ code.function (vptr b o ∷ vint w64 n ∷ []) _ $
-        alloc1 ! (λ l₀. alloc1 ! (λ l₁. alloc1 ! (λ l₂. alloc1 ! (λ l₃. alloc1 ! (λ l₄. alloc0 ! $ params1 ! $ pass1 ! (init ! 6 refl (tt, tt)) $
+        alloc1 ! (λ l₀. alloc1 ! (λ l₁. alloc1 !
+        (λ l₂. alloc1 ! (λ l₃. alloc1 ! (λ l₄. alloc0 ! $ params1 ! $ pass1 ! (init ! 6 refl (tt, tt)) $
         pass1 ! (init ! 4 refl (tt, record { fits = ok })) $ pass0 ! $
-        move ! (11 ∷ []) $ fsplit ! $ fsplit3 ! $ drop ! $ move ! (13 ∷ []) $ split ! $ move ! (3 ∷ 0 ∷ []) $ lexer-looks ! tt κ κ′ d b o (λ s wt.
-        -- [a share of the lexer's cell; what it owns; what shuts it; the loan; 'a's token; res; the number's; _4; …; _3; …; _2; …; _1; …;
-        -- room for _0; …]
+        move ! (11 ∷ []) $ fsplit ! $ fsplit3 ! $ drop ! $ move ! (13 ∷ []) $ split ! $ move ! (3 ∷ 0 ∷ []) $
+        lexer-looks ! tt κ κ′ d b o (λ s wt.
+        -- [a share of the lexer's cell; what it owns; what shuts it; the loan; 'a's token; res; the number's; _4; …;
+        -- _3; …; _2; …; _1; …; room for _0; …]
         assigns ! (of-opd ! (load ! (from ! (hop ! (look ! 13 refl) (fld ! refl (stop !)))) (look-in ! 0 (sub ! 0 refl (whole !)))))
         (from ! (stop !)) (init ! 9 refl (tt, wt .1 .0)) $
         assigns ! (of-opd ! (load ! (from ! (hop ! (look ! 13 refl) (fld ! refl (stop !)))) (look-in ! 0 (sub ! 1 refl (whole !)))))
@@ -150,19 +166,25 @@ module _ {M : Type 1} (𝓤 : URA M) (H : Heap 𝓤) (A : Atoms 𝓤) (W : Given
         peeks ! S.the-row (Is S.the-row) (shows 𝓤 H A S.the-row) r (u ∷ []) (λ is.
         land ! (from ! (stop !)) (init ! 13 refl (EL.lawful S.the-type S′.the-laws 𝓤 H A W tt .typed r _ is .0)) $
         returns ! (look ! 13 refl) $ forget ! 5 refl $ forget ! 7 refl $ forget ! 9 refl $ forget ! 11 refl $ forget ! 13 refl $
-        move ! (13 ∷ 14 ∷ []) $ free1 ! $ move ! (11 ∷ 12 ∷ []) $ free1 ! $ move ! (9 ∷ 10 ∷ []) $ free1 ! $ move ! (7 ∷ 8 ∷ []) $ free1 ! $
+        move ! (13 ∷ 14 ∷ []) $ free1 ! $ move ! (11 ∷ 12 ∷ []) $ free1 ! $ move ! (9 ∷ 10 ∷ []) $ free1 ! $
+        move ! (7 ∷ 8 ∷ []) $ free1 ! $
         move ! (5 ∷ 6 ∷ []) $ free1 ! $ free0 ! $
         by ! (exits r u e)))))))))))
 
-module _ {M : Type 1} (𝓤 : URA M) (H : Heap 𝓤) (A : Atoms 𝓤) (W : Given 𝓤 H A) (mem : Memory → SProp 𝓤) (run : Routine → Fun 𝓤) where
-  annotation-walks : (C : Calls 𝓤 H) (Λ : Loops 𝓤 H) → FmC 𝓤 H (W .laws) C → Triple 𝓤 (C #lex-calls·annotation) (Callee 𝓤 H A mem run)
+module _ {M : Type 1} (𝓤 : URA M) (H : Heap 𝓤) (A : Atoms 𝓤) (W : Given 𝓤 H A) (mem : Memory → SProp 𝓤)
+    (run : Routine → Fun 𝓤) where
+  annotation-walks : (C : Calls 𝓤 H) (Λ : Loops 𝓤 H) → FmC 𝓤 H (W .laws) C
+      → Triple 𝓤 (C #lex-calls·annotation) (Callee 𝓤 H A mem run)
       → Walks 𝓤 H A annotation.ended stayed (WpFn 𝓤 H C Λ code.function) (annotation.clauses 𝓤 H A mem run)
-  annotation-walks C Λ fm known = walked 𝓤 H A annotation.ended stayed (annotation.clauses 𝓤 H A mem run) (WpFn 𝓤 H C Λ code.function)
+  annotation-walks C Λ fm known =
+      walked 𝓤 H A annotation.ended stayed (annotation.clauses 𝓤 H A mem run) (WpFn 𝓤 H C Λ code.function)
       (λ κs. (ptr-vals, (uint-vals w64, tt))) (λ κs. (shr-tells (named 0) (κs .0) (Row (κs .1 .0)), (uint-tells w64, tt)))
-      (λ κs qs bounds a g are. via 𝓤 _ (fst∗ 𝓤 _ (emp 𝓤)) (walk 𝓤 H A W mem run (κs .0) (κs .1 .0) (qs .0) (qs .1 .0) bounds
+      (λ κs qs bounds a g are. via 𝓤 _ (fst∗ 𝓤 _ (emp 𝓤))
+      (walk 𝓤 H A W mem run (κs .0) (κs .1 .0) (qs .0) (qs .1 .0) bounds
       (a .0 .ptr .0) (a .0 .ptr .1) (a .0 .name) (a .0 .now) (a .1 .0) (are .1 .0 .1) C Λ fm known))
 
-annotation-meets : {M : Type 1} (𝓤 : URA M) (H : Heap 𝓤) (A : Atoms 𝓤) (W : Given 𝓤 H A) (mem : Memory → SProp 𝓤) (run : Routine → Fun 𝓤)
+annotation-meets : {M : Type 1} (𝓤 : URA M) (H : Heap 𝓤) (A : Atoms 𝓤) (W : Given 𝓤 H A) (mem : Memory → SProp 𝓤)
+    (run : Routine → Fun 𝓤)
     (𝓣 : Tables 𝓤 H)
     → Triple 𝓤 (𝓣 .C #lex-calls·annotation) (Callee 𝓤 H A mem run)
     → Meets 𝓤 H A annotation.signature (WpFn 𝓤 H (𝓣 .C) (𝓣 .Λ) code.function) (annotation.spec 𝓤 H A mem run)
@@ -178,7 +200,10 @@ pub annotation-spec : {M : Type 1} → stated.statement M
 unfolding code.routine tablesOf
 annotation-spec 𝓤 H 𝓜 𝓖 𝓡 =
     entered 𝓤 H (tripleOf 𝓤 H (𝓖 .A) annotation.signature (annotation.spec 𝓤 H (𝓖 .A) (𝓜 .mem) (𝓡 .run)))
-    (tables 𝓤 H 𝓜 𝓡 code.env .C) (tables 𝓤 H 𝓜 𝓡 code.env .Λ) #lex-struct·annotation code.function (code.unfolded 𝓤 H 𝓜 𝓡)
-    (annotation-meets 𝓤 H (𝓖 .A) (givenOf 𝓤 H 𝓜 𝓖) (𝓜 .mem) (𝓡 .run) (tablesOf 𝓤 H 𝓜 (tables 𝓤 H 𝓜 𝓡 code.env))
-    (cited 𝓤 H (Callee 𝓤 H (𝓖 .A) (𝓜 .mem) (𝓡 .run)) 𝓜 𝓡 code.env #lex-calls·annotation callee-def.routine code.calls-lex-calls·annotation
+    (tables 𝓤 H 𝓜 𝓡 code.env .C) (tables 𝓤 H 𝓜 𝓡 code.env .Λ) #lex-struct·annotation code.function
+    (code.unfolded 𝓤 H 𝓜 𝓡)
+    (annotation-meets 𝓤 H (𝓖 .A) (givenOf 𝓤 H 𝓜 𝓖) (𝓜 .mem) (𝓡 .run)
+    (tablesOf 𝓤 H 𝓜 (tables 𝓤 H 𝓜 𝓡 code.env))
+    (cited 𝓤 H (Callee 𝓤 H (𝓖 .A) (𝓜 .mem) (𝓡 .run)) 𝓜 𝓡 code.env #lex-calls·annotation callee-def.routine
+    code.calls-lex-calls·annotation
     (callee-thm.met 𝓤 H 𝓜 𝓖 𝓡)))

@@ -1,4 +1,5 @@
--- `utf8_check::blocks::wrong_in` meets its contract. The loop's invariant: if the number is 0, the bytes passed stand right. Assumes nothing.
+-- `utf8_check::blocks::wrong_in` meets its contract. The loop's invariant: if the number is 0, the bytes passed stand
+-- right. Assumes nothing.
 use Prim.Native.Nat.{_+_, _-_, _≤_}
 use mathlib.Core.Path.{_≡_}
 use native.Mathlib.Omega.{arith}
