@@ -1,5 +1,4 @@
-// What a C caller passes, decoded: settings (a word of bits) and a token (three words). include/thallusweb.h explains
-// each word.
+// Decodes what a C caller passes: settings (a word of bits) and a token (three words). include/thallusweb.h has them.
 ghost use mathlib.Core.Path.{_≡_};
 ghost use Rattle.c_asked.specs.Asked.{settingsOf, Empty, Asks};
 use codes::MaybeKind;
@@ -7,7 +6,7 @@ use wat::Settings;
 use wat::Token;
 use wat::TokenKind;
 
-// The settings that a word's bits say: 1 that confusing characters are allowed, 2 strict digits. Other bits are ignored.
+// The settings by a word's bits: 1, confusing characters are allowed; 2, strict digits. Other bits are ignored.
 pub fn settings_of(word: u32) -> Settings
     ensures { λ r. ⌜ r ≡ settingsOf word ⌝ }
 {
@@ -28,8 +27,8 @@ fn no_token(offset: usize) -> Token
     }
 }
 
-// The token whose kind's number, offset and length are these. Where there can be none, one of no bytes at the offset: a reader refuses it
-// by 1 to 4 there, or by 30.
+// The token whose kind's number, offset and length are these. Where there can be none, one of no bytes at the offset: a
+// reader refuses it by 1 to 4 there, or by 30.
 pub fn token_of(w: [u64; 3]) -> Token
     ensures { λ t. ⌜ Asks w t ⌝ }
 {

@@ -1,4 +1,4 @@
-// Where, in words: the part that a reader's answer names, and the place counter. include/thallusweb.h explains each word.
+// The part that a reader's answer names, and the place counter, in words. include/thallusweb.h explains them.
 ghost use Rattle.c_spots.specs.Spots.{PartWords, Lies, MovedWords};
 use place::Place;
 
@@ -26,7 +26,7 @@ pub fn part_of(text: &[u8], buffer: &[u8], answer: [u64; 5]) -> [u64; 3]
     }
 }
 
-// The place counter, line and column, moved over the bytes of a token; false, and unchanged, where that is refused by 35.
+// Moves the place counter, line and column, over a token's bytes; returns false, and leaves it, if 35 refuses that.
 pub fn moved(place: &mut [u32; 2], bytes: &[u8]) -> bool
     ensures { λ r. ⌜ MovedWords (now (place .entry)) (now (bytes .entry)) r (now (place .exit)) ⌝ }
 {

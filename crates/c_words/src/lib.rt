@@ -1,6 +1,7 @@
 // The lexer's answers as words: what crosses the border to C. include/thallusweb.h explains each word.
 ghost use mathlib.Core.Path.{_≡_};
-ghost use Rattle.c_words.specs.Words.{refusedWords, checkedWords, foundWords, parsedWords, stopWords, listedWords};
+ghost use Rattle.c_words.specs.Words.{refusedWords, checkedWords, foundWords};
+ghost use Rattle.c_words.specs.Words.{parsedWords, stopWords, listedWords};
 use wat::Checked;
 use wat::Found;
 use wat::Listed;

@@ -1,4 +1,4 @@
-// The numbers of kinds, errors and refusals (docs/RULES.md, 1 to 14), the kind that has a number, and what a refusal carries.
+// The numbers of kinds, errors and refusals (docs/RULES.md, 1 to 14), a number's kind, and what a refusal carries.
 ghost use mathlib.Core.Path.{_≡_};
 ghost use Prim.Native.Nat.{_≤_, _/_, _%_};
 ghost use lib.Dec.{eqb};

@@ -16,7 +16,7 @@ use Rattle.wat.specs.LexModel.{family}
 use Rattle.wat.specs.StringModel.{hexOf}
 use Rattle.wat.proofs.Basics.{between-in, between-true}
 use Rattle.wat.specs.Utf8Model.{pick}
-use Rattle.wat.proofs.Utf8Laws.{pick-both}
+use Rattle.wat.proofs.Utf8Rows.{pick-both}
 use Rattle.lex_classes.specs.Ask.{digitOf}
 
 -- ---- among some numbers, or none of them

@@ -13,7 +13,7 @@ use borrow.Author.Count.{below-more}
 use borrow.Author.Tests.{eqb-true, leb-true}
 use Rattle.wat.specs.Chars.{space, idchar}
 use Rattle.wat.specs.Utf8Model.{pick}
-use Rattle.wat.proofs.Utf8Laws.{pick-both}
+use Rattle.wat.proofs.Utf8Rows.{pick-both}
 use Rattle.lex_classes.specs.Table.{mark, Marked, Classes}
 
 -- the entries from place i on are those of the test, up to place 256

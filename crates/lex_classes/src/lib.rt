@@ -1,5 +1,5 @@
-// Classes of bytes and of characters, and the scans over them. Which bytes are meant is said in wat's definitions; a class is asked for by
-// a function, with the one table that is lent, so that the table can change and no caller has to.
+// Classes of bytes and of characters, and the scans over them. Which bytes are meant is said in wat's definitions; a
+// class is asked for by a function, with the one table that is lent, so that the table can change and no caller has to.
 
 ghost use mathlib.Core.Path.{_≡_};
 ghost use mathlib.Core.Bool.{true, false};
@@ -78,8 +78,8 @@ fn idchars() -> [u8; 256]
     IDCHARS
 }
 
-// The table to lend: 1 for white space, and 2 for an idchar. It is made once for a call that reads many bytes, since a constant array is
-// copied wherever it is named.
+// The table to lend: 1 for white space, and 2 for an idchar. It is made once for a call that reads many bytes, since a
+// constant array is copied wherever it is named.
 pub fn table() -> [u8; 256]
     ensures { λ r. ⌜ Classes r ⌝ }
 {
@@ -185,7 +185,8 @@ pub fn is_confusing_unicode(c: u32) -> bool
 }
 
 // https://webassembly.github.io/spec/core/text/lexical.html#white-space
-// The place behind the white space from `at` on. In UTF-8 the four bytes stand for themselves alone, so that no character is decoded.
+// The place behind the white space from `at` on. In UTF-8 the four bytes stand for themselves alone, so that no
+// character is decoded.
 pub fn skip_ws(s: &[u8], at: usize, t: &[u8; 256]) -> usize
     requires { ⌜ at ≤ length (now s) ⌝ }
     requires { ⌜ Classes (now t) ⌝ }

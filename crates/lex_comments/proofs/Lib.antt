@@ -1,3 +1,4 @@
 pub mod FindLaws
 pub mod BlockLaws
+pub mod HiddenChars
 pub mod HiddenLaws

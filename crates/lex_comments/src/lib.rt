@@ -154,12 +154,13 @@ fn char_at(s: &[u8], at: usize) -> u32
     a % 0x10 * 0x1000 + b % 0x40 * 0x40 + c % 0x40
 }
 
-// The first confusing character of the comment from `from` to `to`. Each of the nine begins with the byte 0xe2, which stands nowhere but at
-// the start of a character: only there is one decoded.
+// The first confusing character of the comment from `from` to `to`. Each of the nine begins with the byte 0xe2, which
+// stands nowhere but at the start of a character: only there is one decoded.
 pub fn check_confusing_comment(s: &[u8], from: usize, to: usize) -> Hidden
     requires { ⌜ (from ≤ to) × (to ≤ length (now s)) ⌝ }
     requires { ⌜ WellFormed (drop from (now s)) ⌝ }
-    ensures { λ r. ⌜ r ≡ hiddenIn from to (hidden (suc (length (drop from (now (s .entry))))) (drop from (now (s .entry)))) ⌝ }
+    ensures { λ r. ⌜ r ≡ hiddenIn from to
+        (hidden (suc (length (drop from (now (s .entry))))) (drop from (now (s .entry)))) ⌝ }
 {
     let mut i = from;
     while i < to {

@@ -18,9 +18,10 @@ use Rattle.wat.specs.Strings.{escapes}
 use Rattle.wat.specs.StringModel as model
 use Rattle.wat.specs.StringModel.{nothing, peek, hexOf, encode}
 use Rattle.wat.proofs.Utf8Laws.{char-front}
-use Rattle.wat.proofs.Scalars.{ascii, alone-at, char-right, scalar-split}
+use Rattle.wat.proofs.ScalarValues.{char-right}
+use Rattle.wat.proofs.Scalars.{ascii, alone-at, scalar-split}
 use Rattle.wat.proofs.Basics.{below, has-every}
-use Rattle.wat.proofs.Hexnums.{of-hex, hex-ascii}
+use Rattle.wat.proofs.HexDigits.{of-hex, hex-ascii}
 use Rattle.utf8_chars.specs.Decoding.{Character, Decodes}
 use Rattle.utf8_chars.specs.declared.Decoded.{Decoded}
 use Rattle.utf8_chars.specs.declared.Decoded.the-variants as decoded

@@ -11,7 +11,8 @@ use lib.Seq.{drop-cons}
 use Rattle.wat.specs.Bytes.{byte}
 use Rattle.wat.specs.declared.Settings.{Settings}
 use Rattle.wat.specs.StringModel.{hexOf, close, digits}
-use Rattle.wat.proofs.Hexnums.{of-hex, hex-small, no-digit, goes-split, under, on-digit, on-big, on-stop}
+use Rattle.wat.proofs.HexDigits.{of-hex, hex-small, no-digit, goes-split}
+use Rattle.wat.proofs.Hexnums.{under, on-digit, on-big, on-stop}
 use Rattle.lex_escapes.specs.Elements.{consumed, Counted}
 use Rattle.wat.specs.declared.Num.{Num}
 use Rattle.wat.specs.declared.Num.the-variants.{Big}

@@ -1,4 +1,4 @@
-// The listing: the tokens of a text from a start on, as records in a lent list. The Rust's `iter`, up to the first error.
+// The listing: the tokens of a text from a start on, as records in a lent list. The Rust's `iter` up to an error.
 ghost use Prim.Native.Nat.{_+_, _≤_, _<_};
 ghost use mathlib.Core.List.{_++_};
 ghost use lib.ListN.{length, drop};

@@ -11,8 +11,8 @@ use Rattle.wat.specs.Utf8.{WellFormed}
 use Rattle.wat.specs.Strings.{Elems, Str}
 use Rattle.wat.specs.RunModel.{StringRead, closed}
 use Rattle.wat.proofs.Basics.{differ}
-use Rattle.wat.proofs.Runs.{Bodies, is-closed, is-failed, bodies, str-body}
-use Rattle.wat_values.proofs.ValueLaws.{str-short}
+use Rattle.wat.proofs.StringRests.{Bodies, is-closed, is-failed, bodies, str-body}
+use Rattle.wat_values.proofs.ValueLengths.{str-short}
 use Rattle.lex_strings.specs.Parsing.{string, Ends, Closes, valueOf}
 
 -- ---- from the answers

@@ -11,7 +11,7 @@ use Rattle.wat.proofs.Basics.{fault-same}
 use Rattle.wat.specs.declared.Settings.{Settings}
 use Rattle.wat.specs.StringModel.{quote, refused, read}
 use Rattle.wat.specs.RunModel.{StringRead, closed, failed, ahead, body}
-use Rattle.wat.proofs.Runs.{ahead-ahead, ahead-none, elems-body}
+use Rattle.wat.proofs.StringRests.{ahead-ahead, ahead-none, elems-body}
 use Rattle.lex_escapes.specs.Elements.{Element, Refuses}
 use Rattle.lex_strings.specs.Raw.{Raws}
 use Rattle.lex_strings.specs.Parsing.{string, Ends, StringFails, Closes, valueOf}

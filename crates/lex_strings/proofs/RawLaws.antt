@@ -17,11 +17,12 @@ use Rattle.wat.specs.Utf8.{_‥_, table, Fits, Char, scalar}
 use Rattle.wat.specs.Chars.{control}
 use Rattle.wat.specs.Strings.{Elem, Elems}
 use Rattle.wat.specs.StringModel.{hexOf, read}
-use Rattle.wat.proofs.Utf8Laws.{char-of, row-at}
+use Rattle.wat.proofs.Utf8Rows.{char-of}
+use Rattle.wat.proofs.Utf8Laws.{row-at}
 use Rattle.wat.proofs.Scalars.{ascii}
 use Rattle.wat.proofs.Basics.{between-true, differ, or-split}
-use Rattle.wat.proofs.Hexnums.{of-hex}
-use Rattle.wat.proofs.Elements.{elem-read}
+use Rattle.wat.proofs.HexDigits.{of-hex}
+use Rattle.wat.proofs.ElementReads.{elem-read}
 use Rattle.lex_classes.specs.Ask.{digitOf}
 use Rattle.lex_classes.proofs.AskLaws.{hex-decimal, hex-upper, hex-lower}
 use Rattle.lex_escapes.specs.Elements.{Element}

@@ -62,8 +62,8 @@ impl<'a> Lexer<'a> {
 
     // The Rust's `iter`, up to the first error, as records in a lent list: at most `budget` tokens from `start` on.
     pub fn list(&self, start: usize, budget: usize, list: &mut [u8]) -> Listed
-        ensures { λ r. ⌜ Listing (now (self .entry) .settings) (now (now (self .entry) .text)) start budget (now (list .entry))
-            r (now (list .exit)) ⌝ }
+        ensures { λ r. ⌜ Listing (now (self .entry) .settings) (now (now (self .entry) .text)) start budget
+            (now (list .entry)) r (now (list .exit)) ⌝ }
     {
         lex_list::list(self.text, self.settings, start, budget, list)
     }
@@ -71,7 +71,8 @@ impl<'a> Lexer<'a> {
 
 // `parse` on plain parameters, so that its method is thin.
 fn parse_from(text: &[u8], settings: Settings, pos: &mut usize) -> Found
-    ensures { λ r. ⌜ Parses settings (now (text .entry)) (now (pos .entry)) (record { found = r; position = now (pos .exit) }) ⌝ }
+    ensures { λ r. ⌜ Parses settings (now (text .entry)) (now (pos .entry))
+        (record { found = r; position = now (pos .exit) }) ⌝ }
 {
     let parsed = lex_calls::parse(text, settings, *pos);
     *pos = parsed.position;

@@ -25,7 +25,7 @@ use Rattle.wat.specs.declared.Family.the-variants.{Run as run}
 use Rattle.wat.specs.LexModel.{family, wordKind, kindOf, runBy, lexBy, next}
 use Rattle.wat.proofs.Runs.{run-stops}
 use Rattle.wat.proofs.OneKind.{kind-word}
-use Rattle.wat_laws.proofs.Total.{elems-lenient}
+use Rattle.wat_laws.proofs.LongestOf.{elems-lenient}
 use Rattle.wat_laws.proofs.RunKinds.{quotedBy, kind-one-string, kind-more}
 use Rattle.lex_numbers.proofs.SliceLaws.{at-byte}
 use Rattle.lex_classes.specs.Scan.{Scanned}

@@ -23,7 +23,7 @@ use Rattle.wat.proofs.Scalars.{after-ascii}
 use Rattle.wat.proofs.Runs.{Stopped, ended, halted, quote-no-idchar, idchar-ascii, run-stops, run-fails, Walks, is-run, is-bad, walks}
 use Rattle.wat.proofs.Basics.{never, shift-shift}
 use Rattle.wat.proofs.Shapes.{word-run}
-use Rattle.wat_laws.proofs.Total.{count-take}
+use Rattle.wat_laws.proofs.TokenShapes.{count-take}
 use Rattle.lex_classes.specs.Scan.{Scanned}
 use Rattle.lex_classes.proofs.ScanLaws.{count-next}
 use Rattle.lex_strings.specs.Parsing.{string, Ends}

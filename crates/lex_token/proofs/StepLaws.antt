@@ -23,7 +23,7 @@ use Rattle.wat.specs.declared.Family.{Family}
 use Rattle.wat.specs.declared.Family.the-variants.{Spaces as spaces}
 use Rattle.wat.specs.LexModel.{family, count, lexBy}
 use Rattle.wat.proofs.Basics.{differ}
-use Rattle.wat.proofs.Shapes.{Families, is-space, is-open, is-close, is-semi, is-single, is-char, is-quote, is-other, families}
+use Rattle.wat.proofs.Families.{Families, is-space, is-open, is-close, is-semi, is-single, is-char, is-quote, is-other, families}
 use Rattle.wat_laws.proofs.Total.{lexed}
 use Rattle.lex_classes.specs.Scan.{Scanned}
 use Rattle.codes.proofs.NumberLaws.{kind-some, kind-small}

@@ -13,7 +13,7 @@ use Rattle.wat.specs.Utf8Model.{pick}
 use Rattle.wat.specs.StringModel.{letterOf}
 use Rattle.messages.specs.Messages.{named, Shown}
 use Rattle.wat.proofs.Basics.{differ, between-true, AllPairs, pairs-listed}
-use Rattle.wat.proofs.Scalars.{scalar-low}
+use Rattle.wat.proofs.ScalarValues.{scalar-low}
 use Rattle.messages.proofs.OneMessage.{shown-one}
 use Rattle.messages.specs.Spelled.{hex, letterByte, shown}
 use Rattle.buffers.specs.Writing.{Added}

@@ -11,7 +11,7 @@ use lib.ListN.{length, getD, take, drop, length-append}
 use lib.Seq.{take-append-seam, drop-append-seam}
 use borrow.Author.Tests.{leb-true}
 use Rattle.wat.specs.Utf8Model.{pick}
-use Rattle.wat.proofs.Utf8Laws.{pick-both}
+use Rattle.wat.proofs.Utf8Rows.{pick-both}
 use Rattle.buffers.specs.Writing.{Put, Added}
 use Rattle.buffers.proofs.AddedLaws.{added-same, copied}
 use Rattle.messages.specs.Spelled.{leads, longestLead, lead}

@@ -13,7 +13,8 @@ use Rattle.wat.specs.declared.LexError.the-variants.{LoneUnderscore, ConfusingU
 use Rattle.wat.specs.{Bytes.bytes, Bytes.between, Bytes.has, Chars.isScalar, Chars.confusing, Cases.errorNumber}
 use Rattle.messages.specs.Messages.{named, Shown, Displays}
 use Rattle.wat.proofs.Basics.{never, has-every}
-use Rattle.wat.proofs.Scalars.{scalar-low, scalar-split}
+use Rattle.wat.proofs.ScalarValues.{scalar-low}
+use Rattle.wat.proofs.Scalars.{scalar-split}
 use Rattle.messages.specs.Spelled.{hexBy, hex, shown, lead}
 use Rattle.messages.proofs.HexLaws.{hexed, hexed-fits}
 use Rattle.messages.proofs.CharLaws.{shown-right, shown-scalar, shown-is, shown-fits}

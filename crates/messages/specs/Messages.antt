@@ -6,9 +6,12 @@ use mathlib.Core.List.{List, [], _∷_, _++_, List·Memᴰ}
 use lib.ListN.{length, drop, getD}
 use Rattle.wat.specs.declared.{LexError.LexError, Refusal.Refusal}
 use Rattle.messages.specs.declared.Told.{Told}
-use Rattle.wat.specs.declared.LexError.the-variants.{DanglingBlockComment, Unexpected, InvalidStringElement, InvalidStringEscape}
-use Rattle.wat.specs.declared.LexError.the-variants.{InvalidHexDigit, Expected, UnexpectedEof, NumberTooBig, InvalidUnicodeValue}
-use Rattle.wat.specs.declared.LexError.the-variants.{LoneUnderscore, ConfusingUnicode, InvalidUtf8Id, EmptyId, EmptyAnnotation}
+use Rattle.wat.specs.declared.LexError.the-variants.{DanglingBlockComment, Unexpected}
+use Rattle.wat.specs.declared.LexError.the-variants.{InvalidStringElement, InvalidStringEscape}
+use Rattle.wat.specs.declared.LexError.the-variants.{InvalidHexDigit, Expected, UnexpectedEof}
+use Rattle.wat.specs.declared.LexError.the-variants.{NumberTooBig, InvalidUnicodeValue}
+use Rattle.wat.specs.declared.LexError.the-variants.{LoneUnderscore, ConfusingUnicode}
+use Rattle.wat.specs.declared.LexError.the-variants.{InvalidUtf8Id, EmptyId, EmptyAnnotation}
 use Rattle.wat.specs.declared.Refusal.the-variants.{Lexical, BufferTooShort, NoMessage}
 use Rattle.messages.specs.declared.Told.the-variants.{Refused, Written}
 use Rattle.wat.specs.{Bytes.bytes, Bytes.byte, Bytes.between, Chars.isScalar, Chars.confusing}
@@ -32,19 +35,23 @@ pub data Shown : ℕ → List ℕ → Type 0 where
   number : {c : ℕ} {s : List ℕ} → isScalar c ≡ true → between 0x20 0x7E c ≡ false
       → ((l : ℕ) → List·Memᴰ (c, l) named → ⊥) → Hexed c s → Shown c (bytes "\\u{" ++ (s ++ bytes "}"))
 
--- the message of an error. One whose character is no scalar value, or with a confusing one that is none of the nine, has none
+-- the message of an error. It has none if its character is no scalar value, or a confusing one that is none of the nine
 pub data Displays : LexError → List ℕ → Type 0 where
   dangling : Displays DanglingBlockComment (bytes "unterminated block comment")
-  unexpected : {c : ℕ} {s : List ℕ} → Shown c s → Displays (Unexpected c) (bytes "unexpected character '" ++ (s ++ bytes "'"))
+  unexpected : {c : ℕ} {s : List ℕ} → Shown c s
+      → Displays (Unexpected c) (bytes "unexpected character '" ++ (s ++ bytes "'"))
   element : {c : ℕ} {s : List ℕ} → Shown c s
       → Displays (InvalidStringElement c) (bytes "invalid character in string '" ++ (s ++ bytes "'"))
-  escape : {c : ℕ} {s : List ℕ} → Shown c s → Displays (InvalidStringEscape c) (bytes "invalid string escape '" ++ (s ++ bytes "'"))
-  digit : {c : ℕ} {s : List ℕ} → Shown c s → Displays (InvalidHexDigit c) (bytes "invalid hex digit '" ++ (s ++ bytes "'"))
+  escape : {c : ℕ} {s : List ℕ} → Shown c s
+      → Displays (InvalidStringEscape c) (bytes "invalid string escape '" ++ (s ++ bytes "'"))
+  digit : {c : ℕ} {s : List ℕ} → Shown c s
+      → Displays (InvalidHexDigit c) (bytes "invalid hex digit '" ++ (s ++ bytes "'"))
   expected : {w c : ℕ} {s t : List ℕ} → Shown w s → Shown c t
       → Displays (Expected w c) (bytes "expected '" ++ (s ++ (bytes "' but found '" ++ (t ++ bytes "'"))))
   end : Displays UnexpectedEof (bytes "unexpected end-of-file")
   big : Displays NumberTooBig (bytes "number is too big to parse")
-  value : {n : ℕ} {s : List ℕ} → Hexed n s → Displays (InvalidUnicodeValue n) (bytes "invalid unicode scalar value 0x" ++ s)
+  value : {n : ℕ} {s : List ℕ} → Hexed n s
+      → Displays (InvalidUnicodeValue n) (bytes "invalid unicode scalar value 0x" ++ s)
   underscore : Displays LoneUnderscore (bytes "bare underscore in numeric literal")
   hidden : {c : ℕ} {s : List ℕ} → confusing c ≡ true → Shown c s
       → Displays (ConfusingUnicode c) (bytes "likely-confusing unicode character found '" ++ (s ++ bytes "'"))

@@ -18,7 +18,8 @@ pub enum Told {
     Written(usize),
 }
 
-// The message of an error at the front of the buffer. Refused by 34 where there is none, then by 32 where the buffer is too short.
+// Writes the message of an error to the front of the buffer. Refused by 34 if there is none, then by 32 if it is too
+// long for the buffer.
 pub fn message(r: Refusal, buffer: &mut [u8]) -> Told
     ensures { λ m. ⌜ Tells r (now (buffer .entry)) m (now (buffer .exit)) ⌝ }
 {
@@ -100,8 +101,7 @@ fn is_error(number: u64) -> bool
     (10 <= number) & (number <= 24) & !(number == 15)
 }
 
-// Whether there is a message: the number is an error's, its characters are scalar values, a confusing one is one of the
-// nine.
+// Whether there is a message: an error's number, characters that are scalar values, a confusing one that is of the nine.
 fn has_message(number: u64, first: u32, second: u32) -> bool
     ensures { λ r. ⌜ r ≡ tellable number first second ⌝ }
 {
@@ -199,16 +199,26 @@ fn expected(out: &mut [u8], at: usize, wanted: u32, found: u32) -> usize
     quoted(out, open, found)
 }
 
-// The text that the message of an error begins with, by the error's number: it stands among all of them from one place to the next.
+// The text with which the message of an error begins, by the error's number: `all` has one after the
+// other, and `places` says where each begins.
 fn lead(out: &mut [u8], number: u64) -> usize
     requires { ⌜ (10 ≤ number) × (number ≤ 24) × (longestLead ≤ length (now out)) ⌝ }
     ensures { λ r. ⌜ Added (now (out .entry)) (now (out .exit)) 0 (lead-of number) r × (r ≤ longestLead) ⌝ }
 {
-    let all =
-        b"unterminated block commentunexpected character 'invalid character in string 'invalid string escape 'invalid hex \
-          digit 'expected 'unexpected end-of-filenumber is too big to parseinvalid unicode scalar value 0xbare underscore in \
-          numeric literallikely-confusing unicode character found 'malformed UTF-8 encoding of string-based idempty \
-          identifierempty annotation id";
+    let all = b"unterminated block comment\
+          unexpected character '\
+          invalid character in string '\
+          invalid string escape '\
+          invalid hex digit '\
+          expected '\
+          unexpected end-of-file\
+          number is too big to parse\
+          invalid unicode scalar value 0x\
+          bare underscore in numeric literal\
+          likely-confusing unicode character found '\
+          malformed UTF-8 encoding of string-based id\
+          empty identifier\
+          empty annotation id";
     let places = [
         0usize,
         26,

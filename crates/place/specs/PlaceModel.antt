@@ -16,7 +16,8 @@ unfoldable pub step : Place → ℕ → Option Place
 step p x =
     elim (lineFeed x) [
       | true ↦ elim (ltb (p .line) last) [ true ↦ some (record { line = p .line + 1; column = 1 }) | false ↦ none ]
-      | false ↦ elim (ltb (p .column) last) [ true ↦ some (record { line = p .line; column = p .column + 1 }) | false ↦ none ]
+      | false ↦ elim (ltb (p .column) last)
+          [ true ↦ some (record { line = p .line; column = p .column + 1 }) | false ↦ none ]
     ]
 
 -- after all of them, one by one

@@ -20,7 +20,8 @@ pub struct Moved {
 
 const LAST: u32 = Place::LAST;
 
-// The counter moved over the bytes of a token; refused by 35, and unchanged, where line or column would pass the last number at any byte.
+// Moves the counter over the bytes of a token; refused by 35, and unchanged, if line or column would pass the last
+// number at any byte.
 pub fn move_over(p: Place, w: &[u8]) -> Moved
     ensures { λ r. ⌜ Moves p (now (w .entry)) r ⌝ }
 {

@@ -24,7 +24,8 @@ pub fn hand(
     buffer: &mut [u8],
 ) -> Reading
     requires { ⌜ (from ≤ to) × (to ≤ length (now text)) × (length (kept sign) ≤ from) ⌝ }
-    ensures { λ r. ⌜ HandsDigits copied sign from (slice from to (now (text .entry))) (now (buffer .entry)) r (now (buffer .exit)) ⌝ }
+    ensures { λ r. ⌜ HandsDigits copied sign from (slice from to (now (text .entry))) (now (buffer .entry)) r
+        (now (buffer .exit)) ⌝ }
 {
     if copied {
         return copy(text, from, to, sign, buffer);
@@ -40,7 +41,8 @@ pub fn hand(
 fn copy(text: &[u8], from: usize, to: usize, sign: Sign, buffer: &mut [u8]) -> Reading
     requires { ⌜ (from ≤ to) × (to ≤ length (now text)) × (length (kept sign) ≤ from) ⌝ }
     ensures { λ r. ⌜ ((o : ℕ)
-        → Handed o (copy-of (kept sign ++ bare (slice from to (now (text .entry))))) (now (buffer .entry)) r (now (buffer .exit))) ⌝ }
+        → Handed o (copy-of (kept sign ++ bare (slice from to (now (text .entry))))) (now (buffer .entry)) r
+        (now (buffer .exit))) ⌝ }
 {
     let first = kept_len(sign);
     let len = first + bare_len(text, from, to);

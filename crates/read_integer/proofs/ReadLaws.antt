@@ -13,7 +13,7 @@ use Rattle.wat.specs.Numbers.{prefix, Fraction, Exponent, IsInteger, IsFloat}
 use Rattle.wat_values.specs.Values.{Reader, Takes, Reads}
 use Rattle.wat_values.specs.Reading.{There, noPlace, Read, ReadsSign}
 use Rattle.wat.proofs.Basics.{differ}
-use Rattle.wat_values.proofs.OneValue.{made, integer-split}
+use Rattle.wat_values.proofs.SomeValue.{made, integer-split}
 use Rattle.read_parts.specs.Handing.{HandsWhole}
 use Rattle.read_token.specs.Here.{Denied}
 use Rattle.read_token.proofs.PresentLaws.{there-slice, slice-reads}

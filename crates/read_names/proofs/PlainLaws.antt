@@ -11,7 +11,7 @@ use Rattle.wat.specs.declared.Settings.{Settings}
 use Rattle.wat.specs.Utf8.{Char, WellFormed}
 use Rattle.wat.specs.Strings.{Elem, Elems, Str}
 use Rattle.wat.proofs.Basics.{never}
-use Rattle.wat_laws.proofs.Total.{char-some}
+use Rattle.wat_laws.proofs.NoFault.{char-some}
 use Rattle.wat_values.proofs.ValueLaws.{has-parts}
 
 -- ---- without a `\`

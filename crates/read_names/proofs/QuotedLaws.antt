@@ -15,7 +15,7 @@ use Rattle.wat.specs.declared.Settings.{Settings}
 use Rattle.wat.specs.Settings.{lenient}
 use Rattle.wat.specs.Strings.{Str}
 use Rattle.wat_values.specs.Reading.{noPlace}
-use Rattle.wat_values.proofs.ValueLaws.{str-short}
+use Rattle.wat_values.proofs.ValueLengths.{str-short}
 use Rattle.lex_strings.specs.Parsing.{string, Closes, valueOf, Copied}
 use Rattle.lex_strings.proofs.DefinitionLaws.{str-whole}
 use Rattle.read_names.specs.Names.{Quoted, Quotes}

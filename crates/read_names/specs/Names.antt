@@ -21,7 +21,8 @@ pub record Quoted (text : List ℕ) (at len : ℕ) : Type 0 where
 
 -- of a string w at a place: the value is between the quotes, or is copied, or the buffer is shorter than the copy
 pub data Quotes (w : List ℕ) (at : ℕ) (buffer : List ℕ) : Reading → List ℕ → Type 0 where
-  plain : {v : List ℕ} → Str lenient w v → has (byte "\\") w ≡ false → Quotes w at buffer (Text (at + 1) (length v)) buffer
+  plain : {v : List ℕ} → Str lenient w v → has (byte "\\") w ≡ false
+      → Quotes w at buffer (Text (at + 1) (length v)) buffer
   too-short : {v : List ℕ} → Str lenient w v → has (byte "\\") w ≡ true → length buffer < length v
       → Quotes w at buffer (Refused BufferTooShort noPlace) buffer
   copied : {v : List ℕ} → Str lenient w v → has (byte "\\") w ≡ true → length v ≤ length buffer
@@ -40,7 +41,8 @@ pub record Sigiled (empty : LexError) (text : List ℕ) (offset len : ℕ) : Typ
   pub named : Name empty (tail text offset len) value
 
 -- the name w, after the first byte of a token at an offset, handed over
-pub record NameRead (empty : LexError) (w : List ℕ) (offset : ℕ) (buffer : List ℕ) (r : Reading) (after : List ℕ) : Type 0 where
+pub record NameRead (empty : LexError) (w : List ℕ) (offset : ℕ) (buffer : List ℕ) (r : Reading) (after : List ℕ) :
+    Type 0 where
   pub value : Value
   pub is : Name empty w value
   pub handed : Handed offset value buffer r after

@@ -8,8 +8,8 @@ use wat::Refusal;
 use wat_values::NO_PLACE;
 use wat_values::Reading;
 
-// The string of `len` bytes at a place: what stands between its quotes, or a copy if it has an escape. The copy is measured first, so that
-// 32 changes no byte.
+// The string of `len` bytes at a place: what stands between its quotes, or a copy if it has an escape. The copy is
+// measured first, so that 32 changes no byte.
 pub fn quoted(text: &[u8], at: usize, len: usize, buffer: &mut [u8]) -> Reading
     requires { ⌜ Quoted (now text) at len ⌝ }
     ensures { λ r. ⌜ Quotes (take len (drop at (now (text .entry)))) at (now (buffer .entry)) r (now (buffer .exit)) ⌝ }
@@ -35,7 +35,8 @@ pub fn quoted(text: &[u8], at: usize, len: usize, buffer: &mut [u8]) -> Reading
 // decoded copy can fail to be UTF-8 (22); only a name that is not copied can be empty (23, 24).
 pub fn name(text: &[u8], offset: usize, len: usize, empty: LexError, buffer: &mut [u8]) -> Reading
     requires { ⌜ Sigiled empty (now text) offset len ⌝ }
-    ensures { λ r. ⌜ NameRead empty (tail (now (text .entry)) offset len) offset (now (buffer .entry)) r (now (buffer .exit)) ⌝ }
+    ensures { λ r. ⌜ NameRead empty (tail (now (text .entry)) offset len) offset (now (buffer .entry)) r
+        (now (buffer .exit)) ⌝ }
 {
     let at = offset + 1;
     let rest = len - 1;

@@ -13,7 +13,7 @@ use Rattle.wat.specs.Bytes.{byte, has}
 use Rattle.wat.specs.Numbers.{IsFloat}
 use Rattle.wat.specs.Tokens.{Tok}
 use Rattle.wat_values.specs.Values.{Reader, Reads}
-use Rattle.wat_values.proofs.OneValue.{MadeFloat, made}
+use Rattle.wat_values.proofs.SomeValue.{MadeFloat, made}
 use Rattle.read_parts.specs.Handing.{At, Payload, Hands, HandsWhole, HandsPayload}
 use Rattle.read_parts.proofs.PartLaws.{none-left}
 

@@ -23,7 +23,7 @@ use Rattle.wat.proofs.Numbers.Digits.{passes}
 use Rattle.wat.proofs.Numbers.Parts.{plain, sign-passed, after-passed, digits-plain, signs, fraction-stops, fraction-passed}
 use Rattle.wat.proofs.Numbers.Decides.{body-plain}
 use Rattle.wat.proofs.Basics.{differ, or-no}
-use Rattle.wat_values.proofs.OneValue.{float-split}
+use Rattle.wat_values.proofs.SomeValue.{float-split}
 use Rattle.wat_values.proofs.ValueLaws.{has-parts}
 use Rattle.read_copies.specs.Copying.{HandsDigits}
 use Rattle.read_copies.proofs.CopyLaws.{bare-plain}

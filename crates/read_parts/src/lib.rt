@@ -118,7 +118,8 @@ fn exponent(
 // The digits after `nan:0x`.
 fn payload(text: &[u8], at: usize, end: usize, underscores: bool, buffer: &mut [u8]) -> Reading
     requires { ⌜ At Payload (now text) at end ⌝ }
-    ensures { λ r. ⌜ HandsPayload underscores (now (text .entry)) at end (now (buffer .entry)) r (now (buffer .exit)) ⌝ }
+    ensures { λ r. ⌜ HandsPayload underscores (now (text .entry)) at end (now (buffer .entry)) r
+        (now (buffer .exit)) ⌝ }
 {
     let from = lex_numbers::past_sign(text, at, end) + 6;
     read_copies::hand(text, from, end, Sign::Unsigned, underscores, buffer)

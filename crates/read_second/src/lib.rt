@@ -4,7 +4,8 @@ ghost use Rattle.wat_values.specs.Reading.{Second};
 ghost use Rattle.read_second.specs.Parts.{PartOf};
 use wat_values::Reading;
 
-// The part of the text or of the buffer that a first call named. It takes any answer, and gives an empty part where there is none such.
+// Returns the part of the text or of the buffer that a first call named. It takes any answer, and returns an empty part
+// if there is no such part.
 pub fn part<'a>(text: &'a [u8], buffer: &'a [u8], reading: Reading) -> &'a [u8]
     ensures { λ r. ⌜ Second (now (text .entry)) (now (buffer .entry)) reading (now r) ⌝ }
 {

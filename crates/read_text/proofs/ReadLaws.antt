@@ -21,7 +21,7 @@ use Rattle.wat.specs.Strings.{Str}
 use Rattle.wat_values.specs.Values.{Reader, Takes, Value, Name, Reads}
 use Rattle.wat_values.specs.Reading.{There, noPlace, own, Read}
 use Rattle.wat.proofs.Basics.{differ}
-use Rattle.wat_values.proofs.OneValue as one
+use Rattle.wat_values.proofs.SomeValue as one
 use Rattle.wat_values.proofs.ReadingLaws.{is-token, token-long}
 use Rattle.read_token.specs.declared.TokenCheck.{TokenCheck}
 use Rattle.read_token.specs.declared.TokenCheck.the-variants as presence

@@ -1,5 +1,5 @@
-// The readers of all but numbers: the Rust's `Token::src`, `string`, `id` and `annotation` as two calls. The first writes a
-// copy if one is needed and says where the value is; the second returns that part of the text or of the buffer.
+// The readers of all but numbers: the Rust's `Token::src`, `string`, `id` and `annotation` as two calls. The first
+// writes a copy if one is needed and says where the value is; the second returns that part.
 
 ghost use mathlib.Core.List.{[]};
 ghost use Rattle.wat_values.specs.Values.{Reader};

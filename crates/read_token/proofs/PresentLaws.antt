@@ -21,7 +21,7 @@ use Rattle.wat.proofs.Unique.{tok-some}
 use Rattle.wat_laws.proofs.Total.{lexed}
 use Rattle.wat_laws.proofs.Answers.{lexed-is}
 use Rattle.wat_laws.proofs.Divisions.{token-size}
-use Rattle.wat_values.proofs.OneValue as one
+use Rattle.wat_values.proofs.SomeValue as one
 use Rattle.wat_values.proofs.ReadingLaws.{is-token}
 use Rattle.codes.proofs.NumberLaws.{kind-some, injective}
 use Rattle.lex_token.specs.declared.Step.{Step}

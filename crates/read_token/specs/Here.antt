@@ -2,7 +2,8 @@
 use Prim.Native.Nat.{ℕ}
 use mathlib.Core.Path.{_≡_}
 use mathlib.Core.List.{List}
-use Rattle.wat.specs.declared.{IntegerKind.IntegerKind, FloatKind.FloatKind, TokenKind.TokenKind, Token.Token, Refusal.Refusal}
+use Rattle.wat.specs.declared.{IntegerKind.IntegerKind, FloatKind.FloatKind}
+use Rattle.wat.specs.declared.{TokenKind.TokenKind, Token.Token, Refusal.Refusal}
 use Rattle.wat.specs.declared.Refusal.the-variants.{NotThatKind}
 use Rattle.wat.specs.declared.TokenKind.the-variants as kind
 use Rattle.wat_values.specs.Reading as reading

@@ -12,9 +12,10 @@
 //   41  seven bytes of 0
 //   48  the text (40)
 //   88  the message, or the lent list or buffer afterwards with 238 where nothing was written (64)
-// The seven numbers, of types 1 to 3: what was found or why it stopped, 0 nothing or the end, 1 a token or the budget, 2 a refusal, 3 no
-// room; its kind or number; its offset or place; its length or first value; its second value; the position or the count; the listing's
-// position. Of type 4: the five words of thallusweb_read (include/thallusweb.h), the token's length, 0.
+// The seven numbers, of types 1 to 3: what was found or why it stopped, 0 nothing or the end, 1 a token or the budget,
+// 2 a refusal, 3 no room; its kind or number; its offset or place; its length or first value; its second value; the
+// position or the count; the listing's position. Of type 4: the five words of thallusweb_read (include/thallusweb.h),
+// the token's length, 0.
 ghost use Prim.Native.Nat.{_+_, _≤_, _<_};
 ghost use mathlib.Core.Path.{_≡_};
 ghost use lib.ListN.{length};
@@ -117,7 +118,8 @@ fn line(name: &[u8], agree: u64, differ: u64) {
     io::write_all(STDOUT_FILENO, b"\n");
 }
 
-// What was counted: of each type of row how many agree, and whether all do. `c` has the rows that are none at 1, then two for each type.
+// What was counted: of each type of row how many agree, and whether all do. `c` has the rows that are none at 1, then
+// two for each type.
 pub fn report(c: &[u64; 10]) {
     line(b"parse ", c[2], c[3]);
     line(b"annotation ", c[4], c[5]);

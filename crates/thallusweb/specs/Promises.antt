@@ -26,7 +26,8 @@ pub data AnnotatedWords (σ : Settings) (text : List ℕ) (pos : ℕ) : List ℕ
   annotated : (f : Found) → Annotates σ text pos f → AnnotatedWords σ text pos (foundWords f)
 
 pub data ListedWords (σ : Settings) (text : List ℕ) (start budget : ℕ) (list : List ℕ) : List ℕ → List ℕ → Type 0 where
-  listed : {r : Listed} {l : List ℕ} → Listing σ text start budget list r l → ListedWords σ text start budget list (listedWords r) l
+  listed : {r : Listed} {l : List ℕ} → Listing σ text start budget list r l
+      → ListedWords σ text start budget list (listedWords r) l
 
 -- ---- readers: the token is given by the words of its kind, offset and length
 

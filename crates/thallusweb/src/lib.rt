@@ -1,8 +1,9 @@
-// What users link: every public call (docs/PROMISES.md), and the calls exported to C. A call for C puts its answer into an array of
-// words; include/thallusweb.h explains each word.
+// What users link: every public call (docs/PROMISES.md), and the calls exported to C. A call for C puts its answer into
+// an array of words; include/thallusweb.h explains each word.
 ghost use Rattle.c_asked.specs.Asked.{settingsOf};
 ghost use Rattle.c_spots.specs.Spots.{PartWords, MovedWords};
-ghost use Rattle.thallusweb.specs.Promises.{Utf8Checked, ParsedWords, AnnotatedWords, ListedWords, ReadWords, IntegerSignWords};
+ghost use Rattle.thallusweb.specs.Promises.{Utf8Checked, ParsedWords, AnnotatedWords};
+ghost use Rattle.thallusweb.specs.Promises.{ListedWords, ReadWords, IntegerSignWords};
 ghost use Rattle.thallusweb.specs.Promises.{FloatSignWords, MessageWords};
 pub use lex_calls::annotation;
 pub use lex_calls::parse;
@@ -68,7 +69,8 @@ pub extern "C" fn thallusweb_list(
     list: &mut [u8],
     out: &mut [u64; 7],
 )
-    ensures { λ _. ⌜ ListedWords (settingsOf settings) (now (text .entry)) start budget (now (list .entry)) (now (out .exit))
+    ensures { λ _. ⌜ ListedWords (settingsOf settings) (now (text .entry)) start budget (now (list .entry))
+        (now (out .exit))
         (now (list .exit)) ⌝ }
 {
     *out = c_words::listed_words(lex_list::list(
@@ -141,7 +143,7 @@ pub extern "C" fn thallusweb_message(
     *out = c_read_words::message_words(messages::message_of(number, first, second, buffer));
 }
 
-// The place counter, line and column, moved over the bytes of a token; false, and unchanged, where that is refused by 35.
+// Moves the place counter, line and column, over a token's bytes; returns false, and leaves it, if 35 refuses that.
 #[no_mangle]
 pub extern "C" fn thallusweb_move(place: &mut [u32; 2], bytes: &[u8]) -> bool
     ensures { λ r. ⌜ MovedWords (now (place .entry)) (now (bytes .entry)) r (now (place .exit)) ⌝ }

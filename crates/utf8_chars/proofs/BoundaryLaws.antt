@@ -12,9 +12,9 @@ use lib.Seq.{drop-cons, drop-append-add, getD-append-add}
 use borrow.Author.Tests.{leb-true}
 use Rattle.wat.specs.Utf8.{Range, _‥_, table, Fits, done, next, Char, WellFormed, empty, more}
 use Rattle.wat.specs.Utf8Model.{pick}
-use Rattle.wat.proofs.Utf8Laws.{char-full, pick-both}
+use Rattle.wat.proofs.Utf8Rows.{char-full, pick-both}
 use Rattle.wat.proofs.Basics.{never, differ, below}
-use Rattle.wat.proofs.Scalars.{All, all-listed}
+use Rattle.wat.proofs.ScalarValues.{All, all-listed}
 use Rattle.utf8_chars.specs.Boundary.{Continues, Boundary}
 
 -- the table's ranges

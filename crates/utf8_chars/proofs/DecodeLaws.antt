@@ -11,8 +11,10 @@ use Rattle.wat.specs.declared.Front.{Front}
 use Rattle.wat.specs.declared.Front.the-variants.{Whole, Wrong, Cut}
 use Rattle.wat.specs.Utf8Model.{front}
 use Rattle.wat.specs.StringModel.{nothing, peek}
-use Rattle.wat.proofs.Utf8Laws.{View, whole, cut, wrong, viewed, char-full, fits-length}
-use Rattle.wat.proofs.Scalars.{All, all-listed, char-right, scalar-split}
+use Rattle.wat.proofs.Utf8Rows.{char-full, fits-length}
+use Rattle.wat.proofs.Utf8Laws.{View, whole, cut, wrong, viewed}
+use Rattle.wat.proofs.ScalarValues.{All, all-listed, char-right}
+use Rattle.wat.proofs.Scalars.{scalar-split}
 use Rattle.wat.proofs.Basics.{differ}
 use Rattle.utf8_chars.specs.Decoding.{Character}
 

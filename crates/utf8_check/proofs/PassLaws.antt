@@ -9,7 +9,8 @@ use lib.ListN.{length, getD, drop}
 use lib.Seq.{drop-cons}
 use Rattle.wat.specs.Utf8.{Range, _‥_, table, Fits, done, next, Char}
 use Rattle.wat.specs.Utf8Model.{front, scan}
-use Rattle.wat.proofs.Utf8Laws.{row-at, char-of, char-front}
+use Rattle.wat.proofs.Utf8Rows.{char-of}
+use Rattle.wat.proofs.Utf8Laws.{row-at, char-front}
 use Rattle.wat.proofs.Basics.{below}
 use Rattle.utf8_chars.specs.Boundary.{Continues}
 use Rattle.utf8_check.specs.Following.{Second}

@@ -10,7 +10,7 @@ use borrow.Author.Tests.{ne-eqb}
 use Rattle.wat.specs.Bytes.{bytes, between, has}
 use Rattle.wat.specs.Chars.{idchar, confusing}
 use Rattle.wat.proofs.Basics.{between-over, between-under, below, never, has-every}
-use Rattle.wat.proofs.Shapes.{false-of}
+use Rattle.wat.proofs.Families.{false-of}
 use Rattle.wat.proofs.Runs.{idchar-ascii}
 
 abbrev same : Bool → Bool → Bool

@@ -2,7 +2,8 @@
 use Prim.Native.Nat.{ℕ, _+_}
 use mathlib.Core.Bool.{Bool, true, false}
 use mathlib.Core.List.{List, [], _∷_}
-use Rattle.wat.specs.declared.{Sign.Sign, FloatKind.FloatKind, TokenKind.TokenKind, LexError.LexError, Refusal.Refusal}
+use Rattle.wat.specs.declared.{Sign.Sign, FloatKind.FloatKind, TokenKind.TokenKind}
+use Rattle.wat.specs.declared.{LexError.LexError, Refusal.Refusal}
 use Rattle.wat.specs.declared.Sign.the-variants.{Unsigned, Plus, Minus}
 use Rattle.wat.specs.declared.FloatKind.the-variants.{Inf, Nan, NanVal, Normal}
 use Rattle.wat.specs.declared.TokenKind.the-variants as kind
@@ -66,7 +67,7 @@ number refusal.NotThatKind = (31, [])
 number refusal.BufferTooShort = (32, [])
 number refusal.NoMessage = (34, [])
 
--- the numbers of a listing that stops for want of room, and of a move of the place counter that is refused: no `Refusal` is either
+-- the numbers of a listing that stops for want of room, and of a refused move of the place counter; no `Refusal` is one
 abbrev pub listFull : ℕ
 listFull = 33
 

@@ -33,7 +33,9 @@ use Rattle.wat.proofs.Basics.{differ}
 use Rattle.wat.proofs.Runs.{Stopped, ended, run-stops, run-fails, Walks, is-run, is-bad, walks}
 use Rattle.wat.proofs.Shapes.{tok-shape}
 use Rattle.wat.proofs.Unique.{family-open, family-other, run-bad-head, tok-some, longest-one, lexed-one, nil-fault}
-use Rattle.wat_laws.proofs.Total.{Told, told, longest-run, run-lenient, lexed}
+use Rattle.wat_laws.proofs.TokenShapes.{Told, told}
+use Rattle.wat_laws.proofs.LongestOf.{longest-run, run-lenient}
+use Rattle.wat_laws.proofs.Total.{lexed}
 
 -- the answer is what the model computes
 pub lexed-is : {σ : Settings} {s : List ℕ} {r : Answer} → WellFormed s → Lexed σ s r → r ≡ lex σ s

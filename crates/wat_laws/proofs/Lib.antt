@@ -1,3 +1,6 @@
+pub mod TokenShapes
+pub mod LongestOf
+pub mod NoFault
 pub mod Total
 pub mod Answers
 pub mod Divisions

@@ -18,8 +18,9 @@ use Rattle.wat.specs.Tokens.{Proper, Tok}
 use Rattle.wat.specs.LexModel.{count, word, whole, quotedKind, kindOf}
 use Rattle.wat.proofs.Runs.{quote-no-idchar}
 use Rattle.wat.proofs.Basics.{never}
-use Rattle.wat.proofs.Shapes.{family-idchar, family-quote}
-use Rattle.wat.proofs.OneKind.{kind-quoted, whole-yes, whole-other, whole-alone, tok-kind}
+use Rattle.wat.proofs.Families.{family-idchar, family-quote}
+use Rattle.wat.proofs.WordKinds.{whole-yes, whole-other, whole-alone}
+use Rattle.wat.proofs.OneKind.{kind-quoted, tok-kind}
 
 -- the kind of idchars and one string
 abbrev pub quotedBy : List ℕ → TokenKind

@@ -1,31 +1,25 @@
 -- Each well-formed text has an answer, which the model computes. Assumes nothing.
-use Prim.Native.Nat.{ℕ, zero, suc, _+_, _≤_, _<_}
+use Prim.Native.Nat.{ℕ, suc, _≤_}
 use mathlib.Core.Path.{_≡_, refl, sym, ap, _∙_, subst}
 use mathlib.Core.Logic.{_⊎_, inl, inr, ⊎-elim}
-use mathlib.Core.List.{List, [], _∷_, _++_, append-assoc}
+use mathlib.Core.List.{List, [], _∷_, _++_}
 use mathlib.Core.Option.{Option, none, some}
 use mathlib.Core.Bool.{Bool, true, false}
 use native.Mathlib.Omega.{arith}
-use lib.Dec.{ltb}
-use lib.ListN.{length, take, drop, length-append, take-append-drop}
-use lib.Seq.{length-take-le, take-append-seam}
-use borrow.Author.Tests.{eqb-true, ltb-true, ltb-false}
+use lib.ListN.{length, take, drop, length-append}
+use lib.Seq.{take-append-seam}
+use borrow.Author.Tests.{eqb-true}
 use Rattle.wat.specs.declared.Fault.{Fault}
 use Rattle.wat.specs.Faults.{fault, shift}
-use Rattle.wat.specs.declared.TokenKind.{TokenKind}
 use Rattle.wat.specs.declared.TokenKind.the-variants as kind
-use Rattle.wat.specs.declared.LexError.{LexError}
-use Rattle.wat.specs.declared.LexError.the-variants.{DanglingBlockComment, Unexpected, ConfusingUnicode}
-use Rattle.wat.specs.declared.Answer.{Answer}
+use Rattle.wat.specs.declared.LexError.the-variants.{DanglingBlockComment, Unexpected}
 use Rattle.wat.specs.declared.Answer.the-variants as answer
-use Rattle.wat.specs.Bytes.{bytes, has, Each}
+use Rattle.wat.specs.Bytes.{bytes}
 use Rattle.wat.specs.declared.Settings.{Settings}
-use Rattle.wat.specs.Settings.{lenient}
 use Rattle.wat.specs.Utf8.{Char, scalar, WellFormed, empty, more}
-use Rattle.wat.specs.Chars.{idchar, space, newline, punctuation, confusing, Plain}
-use Rattle.wat.specs.Strings.{HexNum, Elem, Elems, Str}
-use Rattle.wat.specs.Comments.{Spaces, LineComment, Block, BlockComment}
-use Rattle.wat.specs.Tokens.{Run, Proper, Tok}
+use Rattle.wat.specs.Chars.{space, newline, punctuation}
+use Rattle.wat.specs.Comments.{LineComment, BlockComment}
+use Rattle.wat.specs.Tokens.{Proper, Tok}
 use Rattle.wat.specs.Lexing.{Longest, Comment, begins, Fails, Lexed}
 use Rattle.wat.specs.StringModel.{char, peek}
 use Rattle.wat.specs.declared.RunEnd.{RunEnd}
@@ -33,367 +27,20 @@ use Rattle.wat.specs.declared.RunEnd.the-variants.{Stops as stops, Fails as fai
 use Rattle.wat.specs.RunModel.{walk}
 use Rattle.wat.specs.CommentModel.{fresh, ends}
 use Rattle.wat.specs.declared.Family.{Family}
-use Rattle.wat.specs.declared.Hidden.{Hidden}
 use Rattle.wat.specs.declared.Family.the-variants.{Spaces as spaces, OpenParen as open-paren, CloseParen as close-paren}
 use Rattle.wat.specs.declared.Family.the-variants.{Single as single, Semi as semi, Run as run, Other as other}
-use Rattle.wat.specs.declared.Hidden.the-variants.{Clear as clear, Found as found}
-use Rattle.wat.specs.LexModel.{family, count, next, kindOf, beyond, hiddenBy, hidden, commentBy, comment, blockBy, runBy, otherBy}
+use Rattle.wat.specs.LexModel.{family, count, next, kindOf, comment, blockBy, runBy, otherBy}
 use Rattle.wat.specs.LexModel.{lexBy, lex}
-use Rattle.wat.proofs.Utf8Laws.{chars-meet, char-full}
+use Rattle.wat.proofs.Utf8Rows.{char-full}
 use Rattle.wat.proofs.Basics.{never, differ}
-use Rattle.wat.proofs.Scalars.{peek-char, peek-nothing}
-use Rattle.wat.proofs.Runs.{Stopped, ended, halted, run-stops, run-fails, run-most, Walks, is-run, is-bad, walks}
-use Rattle.wat.proofs.Blocks.{block-ends, block-one, ended as block-ended}
-use Rattle.wat.proofs.Shapes.{Families, is-space, is-open, is-close, is-semi, is-single, is-char, is-quote, is-other, families}
-use Rattle.wat.proofs.Shapes.{family-space, family-punctuation, Class, Shape, a-line, a-block, a-space, an-open, a-close, a-single}
-use Rattle.wat.proofs.Shapes.{a-run, tok-shape}
-use Rattle.wat.proofs.OneKind.{run-family, run-token}
-use Rattle.wat.proofs.Unique.{semi-mark, family-open, family-close, family-semi, family-other, comment-head, tok-some, longest-head}
-use Rattle.wat.proofs.Unique.{run-bad-head, longest-one, first-one, no-dangling, comment-run}
-
--- ---- what a token is, by the family of its first byte
-
-abbrev pub Told : Family → List ℕ → Type 0
-Told spaces w = Spaces w
-Told open-paren w = (w ≡ bytes "(") ⊎ BlockComment w
-Told close-paren w = length w ≡ 1
-Told semi w = (w ≡ bytes ";") ⊎ LineComment w
-Told single w = length w ≡ 1
-Told run w = Run lenient w
-Told other w = ⊥
-
-told-by : (f : Family) (y : ℕ) (w : List ℕ) → family y ≡ f → Told f w → Told (family y) w
-told-by f y w e t = subst (λ (g : Family). Told g w) (sym e) t
-
-pub told : {c : Class} {w : List ℕ} (y : ℕ) (v : List ℕ) → Shape c w → w ≡ y ∷ v → Told (family y) w
-told {w = w} y v (a-line (LineComment.line l)) e = let q : 0x3B ≡ y = cc in
-    told-by semi y w (ap family (sym q) ∙ family-semi) (inr (LineComment.line l))
-told {w = w} y v (a-block (BlockComment.block l)) e = let q : 0x28 ≡ y = cc in
-    told-by open-paren y w (ap family (sym q) ∙ family-open) (inr (BlockComment.block l))
-told {w = w} y v (a-space (Spaces.spaces {x = x} p l)) e = let q : x ≡ y = cc in
-    told-by spaces y w (ap family (sym q) ∙ family-space x p) (Spaces.spaces p l)
-told {w = w} y v an-open e = let q : 0x28 ≡ y = cc in told-by open-paren y w (ap family (sym q) ∙ family-open) (inl refl)
-told {w = w} y v a-close e = let q : 0x29 ≡ y = cc in told-by close-paren y w (ap family (sym q) ∙ family-close) refl
-told {w = w} y v (a-single {x = x} p) e =
-    let q : x ≡ y = cc in
-    ⊎-elim (λ s. told-by single y w (ap family (sym q) ∙ s) refl)
-    (λ s. told-by semi y w (ap family (sym q) ∙ s) (inl (alone (families x) s))) (family-punctuation x p)
-  where
-    alone : {f : Family} → Families x f → f ≡ semi → x ∷ [] ≡ bytes ";"
-    alone (is-space h) s = differ (cc)
-    alone (is-open h) s = differ (cc)
-    alone (is-close h) s = differ (cc)
-    alone (is-semi h) s = ap (λ (z : ℕ). z ∷ []) h
-    alone (is-single h n) s = differ (cc)
-    alone (is-char h) s = differ (cc)
-    alone (is-quote h) s = differ (cc)
-    alone (is-other h) s = differ (cc)
-told {w = w} y v (a-run {x = x} r) e = let q : x ≡ y = cc in told-by run y w (ap family (sym q) ∙ run-family r) r
-
--- a start of x ∷ t that is a token
-pub start : {j : TokenKind} (x : ℕ) (t : List ℕ) (f : Family) (m : ℕ) → family x ≡ f → Tok j (take m (x ∷ t))
-    → Told f (take m (x ∷ t))
-start x t f zero e k = absurd (tok-some k refl)
-start x t f (suc m) e k = subst (λ (g : Family). Told g (x ∷ take m t)) e (told x (take m t) (tok-shape k) refl)
-
--- ---- counting
-
-pub count-take : (f : ℕ → Bool) (b : Bool) (s : List ℕ) → Each f b (take (count f b s) s) × (count f b s ≤ length s)
-unfolding count
-count-take f true [] = (Each.none, omega arith)
-count-take f false [] = (Each.none, omega arith)
-count-take f true (x ∷ s) = go (f x) refl (count-take f true s)
-  where
-    go : (c : Bool) → f x ≡ c → Each f true (take (count f true s) s) × (count f true s ≤ length s)
-        → Each f true (take (count f true (x ∷ s)) (x ∷ s)) × (count f true (x ∷ s) ≤ length (x ∷ s))
-    go true e h = rw (e, count) (Each.next e (h .0), omega (arith, h .1))
-    go false e h = rw (e, count) (Each.none, omega arith)
-count-take f false (x ∷ s) = go (f x) refl (count-take f false s)
-  where
-    go : (c : Bool) → f x ≡ c → Each f false (take (count f false s) s) × (count f false s ≤ length s)
-        → Each f false (take (count f false (x ∷ s)) (x ∷ s)) × (count f false (x ∷ s) ≤ length (x ∷ s))
-    go true e h = rw (e, count) (Each.none, omega arith)
-    go false e h = rw (e, count) (Each.next e (h .0), omega (arith, h .1))
-
-count-prefix : (f : ℕ → Bool) (b : Bool) {w : List ℕ} (u : List ℕ) → Each f b w → length w ≤ count f b (w ++ u)
-unfolding count
-count-prefix f b u Each.none = omega arith
-count-prefix f b u (Each.next {x = x} {t = t} e p) = go b e (count-prefix f b u p)
-  where
-    go : (b : Bool) → f x ≡ b → length t ≤ count f b (t ++ u) → suc (length t) ≤ count f b (x ∷ (t ++ u))
-    go true e i = rw (e, count) (omega arith)
-    go false e i = rw (e, count) (omega arith)
-
--- ---- the longest of each family
-
-module _ (s : List ℕ) (m : ℕ) (h : m ≤ length s) where
-  start-length : length (take m s) ≡ m
-  start-length = length-take-le m s h
-
-longest-one-byte : {k : TokenKind} (x : ℕ) (t : List ℕ) (f : Family) → family x ≡ f → Tok k (x ∷ [])
-    → ((w : List ℕ) → Told f w → (u : List ℕ) → x ∷ t ≡ w ++ u → length w ≤ 1) → Longest (x ∷ t) k 1
-longest-one-byte x t f e k g =
-    record {
-      fits = omega arith;
-      is = k;
-      most = λ j m h r. let w = g (take m (x ∷ t)) (start x t f m e r) (drop m (x ∷ t)) (sym (take-append-drop m (x ∷ t))) in
-          omega (arith, start-length (x ∷ t) m h);
-    }
-
-longest-space : (x : ℕ) (t : List ℕ) → space x ≡ true → Longest (x ∷ t) kind.Whitespace (count space true (x ∷ t))
-unfolding count
-longest-space x t e =
-    record {
-      fits = count-take space true (x ∷ t) .1;
-      is = rw (e, count) (Tok.proper (Proper.whitespace (Spaces.spaces e (count-take space true t .0))));
-      most = λ j m h r. let w =
-          spaces-most (start x t spaces m (family-space x e) r) (drop m (x ∷ t)) (sym (take-append-drop m (x ∷ t))) in
-          omega (arith, start-length (x ∷ t) m h);
-    }
-  where
-    spaces-most : {w : List ℕ} → Spaces w → (u : List ℕ) → x ∷ t ≡ w ++ u → length w ≤ count space true (x ∷ t)
-    spaces-most {w} (Spaces.spaces e p) u q = rw q (count-prefix space true u (Each.next e p))
-
-longest-line : (t : List ℕ) → Longest (0x3B ∷ 0x3B ∷ t) kind.LineComment (count newline false (0x3B ∷ 0x3B ∷ t))
-unfolding count newline has
-longest-line t =
-    record {
-      fits = count-take newline false (0x3B ∷ 0x3B ∷ t) .1;
-      is = Tok.proper (Proper.line-comment (LineComment.line (count-take newline false t .0)));
-      most = λ j m h r. let w =
-          line-most (start 0x3B (0x3B ∷ t) semi m family-semi r) (drop m (0x3B ∷ 0x3B ∷ t))
-          (sym (take-append-drop m (0x3B ∷ 0x3B ∷ t))) in omega (arith, start-length (0x3B ∷ 0x3B ∷ t) m h);
-    }
-  where
-    by-line : {w : List ℕ} → LineComment w → (u : List ℕ) → 0x3B ∷ 0x3B ∷ t ≡ w ++ u
-        → length w ≤ count newline false (0x3B ∷ 0x3B ∷ t)
-    by-line (LineComment.line {t = v} l) u q =
-        let z : t ≡ v ++ u = cc in
-        let k : count newline false t ≡ count newline false (v ++ u) = ap (count newline false) z in
-        let i = count-prefix newline false u l in
-        omega arith
-
-    line-most : {w : List ℕ} → (w ≡ bytes ";") ⊎ LineComment w → (u : List ℕ) → 0x3B ∷ 0x3B ∷ t ≡ w ++ u
-        → length w ≤ count newline false (0x3B ∷ 0x3B ∷ t)
-    line-most (inl e) u q = omega (arith, ap length e)
-    line-most (inr l) u q = by-line l u q
-
-longest-block : {v : List ℕ} (u : List ℕ) → Block v → Longest (0x28 ∷ 0x3B ∷ (v ++ u)) kind.BlockComment (2 + length v)
-longest-block {v} u b = rw (two (length v))
-    (record {
-      fits = omega (arith, length-append v u);
-      is = rw (take-append-seam v u) (Tok.proper (Proper.block-comment (BlockComment.block b)));
-      most = λ j m h r. let w =
-          block-most (start 0x28 (0x3B ∷ (v ++ u)) open-paren m family-open r) (drop m (0x28 ∷ 0x3B ∷ (v ++ u)))
-          (sym (take-append-drop m (0x28 ∷ 0x3B ∷ (v ++ u)))) in omega (arith, start-length (0x28 ∷ 0x3B ∷ (v ++ u)) m h);
-    })
-  where
-    two : (n : ℕ) → 2 + n ≡ suc (suc n)
-    two n = omega arith
-
-    by-block : {w : List ℕ} → BlockComment w → (z : List ℕ) → 0x28 ∷ 0x3B ∷ (v ++ u) ≡ w ++ z
-        → length w ≤ suc (suc (length v))
-    by-block (BlockComment.block {u = y} p) z q = let i = block-one u z b p (cc) .0 in omega (arith, ap length i)
-
-    block-most : {w : List ℕ} → (w ≡ bytes "(") ⊎ BlockComment w → (z : List ℕ) → 0x28 ∷ 0x3B ∷ (v ++ u) ≡ w ++ z
-        → length w ≤ suc (suc (length v))
-    block-most (inl e) z q = omega (arith, ap length e)
-    block-most (inr l) z q = by-block l z q
-
-run-byte : (x : ℕ) → family x ≡ run → (idchar x ≡ true) ⊎ (x ≡ 0x22)
-run-byte x f = go (families x) f
-  where
-    go : {f : Family} → Families x f → f ≡ run → (idchar x ≡ true) ⊎ (x ≡ 0x22)
-    go (is-space h) s = differ (cc)
-    go (is-open h) s = differ (cc)
-    go (is-close h) s = differ (cc)
-    go (is-semi h) s = differ (cc)
-    go (is-single h n) s = differ (cc)
-    go (is-char h) s = inl h
-    go (is-quote h) s = inr h
-    go (is-other h) s = differ (cc)
-
-not-stopped : {l : List ℕ} (x : ℕ) (t : List ℕ) → family x ≡ run → Stopped l → l ≡ x ∷ t → ⊥
-not-stopped x t f ended e = let y : _≡_ {A = ℕ} 0 1 = cc in omega arith
-not-stopped x t f (halted {x = y} g n) e = let q : x ≡ y = cc in
-    ⊎-elim (λ h. never (rw q at h) g) (λ h. n (sym q ∙ h)) (run-byte x f)
-
--- the same at a text and a length that equal those
-block-at : {s : List ℕ} {n : ℕ} (v u : List ℕ) → s ≡ 0x28 ∷ 0x3B ∷ (v ++ u) → n ≡ length v → Block v
-    → Longest s kind.BlockComment (2 + n)
-block-at v u e l b = rw (e, l) (longest-block u b)
-
-pub longest-run : {w : List ℕ} (x : ℕ) (t u : List ℕ) → x ∷ t ≡ w ++ u → Run lenient w → Stopped u
-    → family x ≡ run → Longest (x ∷ t) (kindOf w) (length w)
-longest-run {w} x t u q r z f =
-    record {
-      fits = omega (arith, ap length q, length-append w u);
-      is = rw (q, take-append-seam w u) (whole w r q);
-      most = λ j m h k. let i =
-          run-most (drop m (x ∷ t)) fuel (length w) (start x t run m f k) (omega (arith, start-length (x ∷ t) m h))
-          (ap (walk lenient fuel) (take-append-drop m (x ∷ t) ∙ q)
-          ∙ run-stops fuel r z (omega (arith, ap length q, length-append w u))) in
-          omega (arith, start-length (x ∷ t) m h);
-    }
-  where
-    fuel : ℕ
-    fuel = suc (length (x ∷ t))
-
-    whole : (w : List ℕ) → Run lenient w → x ∷ t ≡ w ++ u → Tok (kindOf w) w
-    whole [] r q = absurd (not-stopped x t f z (sym q))
-    whole (y ∷ v) r q = run-token y v r
-
--- a run under any settings is one under the lenient ones
-elem-lenient : {σ : Settings} {s v : List ℕ} → Elem σ s v → Elem lenient s v
-elem-lenient (Elem.raw ch p q r h) = Elem.raw ch p q r (λ e. differ (cc))
-elem-lenient (Elem.letter m) = Elem.letter m
-elem-lenient (Elem.pair p q) = Elem.pair p q
-elem-lenient (Elem.unicode r ch) = Elem.unicode (number-lenient r) ch
-  where
-    number-lenient : {σ : Settings} {ds : List ℕ} {n : ℕ} → HexNum σ ds n → HexNum lenient ds n
-    number-lenient (HexNum.one h) = HexNum.one h
-    number-lenient (HexNum.more k r h) = HexNum.more k (number-lenient r) h
-
-pub elems-lenient : {σ : Settings} {s v : List ℕ} → Elems σ s v → Elems lenient s v
-elems-lenient Elems.none = Elems.none
-elems-lenient (Elems.next p r) = Elems.next (elem-lenient p) (elems-lenient r)
-
-pub run-lenient : {σ : Settings} {w : List ℕ} → Run σ w → Run lenient w
-run-lenient Run.none = Run.none
-run-lenient (Run.char e r) = Run.char e (run-lenient r)
-run-lenient (Run.string (Str.quoted q) r) = Run.string (Str.quoted (elems-lenient q)) (run-lenient r)
-
--- ---- confusing characters
-
-data Hiddens (s : List ℕ) : Hidden → Type 0 where
-  is-clear : Plain s → Hiddens s clear
-  is-found : {p c : List ℕ} {n x : ℕ} (t : List ℕ) → s ≡ p ++ (c ++ t) → Plain p → Char c
-      → confusing (scalar c) ≡ true → n ≡ length p → x ≡ scalar c → Hiddens s (found n x)
-
-hiddens-next : {c u : List ℕ} {h : Hidden} → Char c → confusing (scalar c) ≡ false → Hiddens u h
-    → Hiddens (c ++ u) (beyond (length c) h)
-hiddens-next ch e (is-clear p) = is-clear (Plain.next ch e p)
-hiddens-next {c} ch e (is-found {p = p} {c = d} {n = n} t q r dh g l m) =
-    is-found {n = length c + n} t (ap (λ (z : List ℕ). c ++ z) q ∙ sym (append-assoc c p (d ++ t))) (Plain.next ch e r) dh g
-    (omega (arith, length-append c p)) m
-
-pub char-some : (c : List ℕ) → Char c → 0 < length c
-char-some [] ch = absurd (char-full ch)
-char-some (x ∷ c) ch = omega arith
-
-hiddens : (f : ℕ) {s : List ℕ} → length s < f → WellFormed s → Hiddens s (hidden f s)
-unfolding hidden
-hiddens zero h w = absurd (omega arith)
-hiddens (suc f) h empty = rw peek-nothing (is-clear Plain.none)
-hiddens (suc f) h (more {c = c} {t = u} ch w) =
-    rw (peek-char c u ch) (go (confusing (scalar c)) refl (hiddens f (let z = char-some c ch in omega (arith, length-append c u)) w))
-  where
-    go : (b : Bool) → confusing (scalar c) ≡ b → Hiddens u (hidden f u) → Hiddens (c ++ u) (hiddenBy (char c u) (λ v. hidden f v))
-    go true e i = rw (e, hiddenBy) (is-found u refl Plain.none ch e refl refl)
-    go false e i = rw (e, hiddenBy) (hiddens-next ch e i)
-
-no-hidden : {s p c : List ℕ} (t : List ℕ) → Plain s → Plain p → Char c → confusing (scalar c) ≡ true
-    → s ≡ p ++ (c ++ t) → ⊥
-no-hidden {c = c} t Plain.none Plain.none ch e q = none-left c ch q
-  where
-    none-left : (c : List ℕ) → Char c → [] ≡ c ++ t → ⊥
-    none-left [] ch q = char-full ch
-    none-left (x ∷ c) ch q = let y : _≡_ {A = ℕ} 0 1 = cc in omega arith
-no-hidden {c = c} t Plain.none (Plain.next {c = d} {t = u} dh f r) ch e q = none-left d dh q
-  where
-    none-left : (d : List ℕ) → Char d → [] ≡ (d ++ u) ++ (c ++ t) → ⊥
-    none-left [] ch q = char-full ch
-    none-left (x ∷ d) ch q = let y : _≡_ {A = ℕ} 0 1 = cc in omega arith
-no-hidden {c = c} t (Plain.next {c = d} {t = u} dh f r) Plain.none ch e q = let m = chars-meet d c u t dh ch q .0 in
-    never (rw (← m) at e) f
-no-hidden {c = c} t (Plain.next {c = d} {t = u} dh f r) (Plain.next {c = d′} {t = u′} dh′ f′ r′) ch e q =
-    no-hidden t r r′ ch e (chars-meet d d′ u (u′ ++ (c ++ t)) dh dh′ (q ∙ append-assoc d′ u′ (c ++ t)) .1)
-
--- ---- no fault
-
--- what is refused where the longest token is a comment
-record Confused (σ : Settings) (s : List ℕ) (n : ℕ) : Type 0 where
-  before : List ℕ
-  at : List ℕ
-  rest : List ℕ
-  off : σ .«allow_confusing» ≡ false
-  seam : s ≡ before ++ (at ++ rest)
-  plain : Plain before
-  is : Char at
-  confuses : confusing (scalar at) ≡ true
-  inside : length before < n
-
-comment-faults : {σ : Settings} {k : TokenKind} {n : ℕ} {s : List ℕ} {f : Fault} (y : ℕ) (v : List ℕ) → s ≡ y ∷ v
-    → Comment k → Longest s k n → Fails σ s f → Confused σ s n
-comment-faults {σ} {k} {n} {s} y v h c l f = go f refl
-  where
-    head : (family y ≡ open-paren) ⊎ (family y ≡ semi)
-    head = let w = longest-head l h in comment-head y (w .0) c (l .is) (w .1)
-
-    no : (f : Family) → family y ≡ f → (open-paren ≡ f → ⊥) → (semi ≡ f → ⊥) → ⊥
-    no f e a b = ⊎-elim (λ z. a (sym z ∙ e)) (λ z. b (sym z ∙ e)) head
-
-    go : {s′ : List ℕ} {f : Fault} → Fails σ s′ f → s′ ≡ s → Confused σ s n
-    go (Fails.dangling {t = t} g) q =
-        absurd (no-dangling (sym q) (subst (λ (z : List ℕ). (u v : List ℕ) → z ≡ u ++ v → BlockComment u → ⊥) q g) c l)
-    go (Fails.unexpected {x = x} t ch g) q =
-        let z : x ≡ y = cc in
-        absurd (no other (ap family (sym z) ∙ family-other x g) (λ e. let y : _≡_ {A = ℕ} 0 1 = cc in omega arith)
-        (λ e. let y : _≡_ {A = ℕ} 0 1 = cc in omega arith))
-    go (Fails.comment {p = p} {c = d} t g c′ l′ pl ch cf b) q =
-        let z = longest-one (rw q at l′) l .1 in
-        record { before = p; at = d; rest = t; off = g; seam = sym q; plain = pl; is = ch; confuses = cf; inside = omega arith }
-    go (Fails.string r b) q = absurd (comment-run s s (sym q) (sym q) l c r b)
-
-comment-lexed : {k : TokenKind} {n : ℕ} (σ : Settings) (s : List ℕ) (y : ℕ) (v : List ℕ) → s ≡ y ∷ v → WellFormed s
-    → Comment k → Longest s k n → Lexed σ s (comment σ k n s)
-unfolding comment
-comment-lexed {k} {n} σ s y v h w c l = go (σ .«allow_confusing») refl
-  where
-    inner : (off : σ .«allow_confusing» ≡ false) {x : Hidden} → Hiddens s x → Lexed σ s (commentBy k n x)
-    inner off (is-clear p) =
-        Lexed.token l (λ e f. let g = comment-faults y v h c l f in no-hidden (g .rest) p (g .plain) (g .is) (g .confuses) (g .seam))
-    inner off (is-found {p = p} {c = d} {n = a} {x = x} t q pl ch cf e z) = test (ltb a n) refl
-      where
-        test : (b : Bool) → ltb a n ≡ b → Lexed σ s (commentBy k n (found a x))
-        test true r =
-            let u = ltb-true a n r in
-            rw (r, commentBy) (rw (e, z)
-            (Lexed.fails (subst (λ (s : List ℕ). Fails σ s (fault (ConfusingUnicode (scalar d)) (length p) n)) (sym q)
-            (Fails.comment t off c (rw q at l) pl ch cf (omega arith)))))
-        test false r =
-            rw (r, commentBy) (Lexed.token l (λ e′ f.
-            let g = comment-faults y v h c l f in
-            let i = first-one t (g .rest) pl ch cf (g .plain) (g .is) (g .confuses) (sym q ∙ g .seam) .0 in
-            let u = ltb-false a n r in
-            let j = g .inside in
-            omega (arith, ap length i)))
-
-    go : (b : Bool) → σ .«allow_confusing» ≡ b → Lexed σ s (comment σ k n s)
-    go true e =
-        let q : comment σ k n s ≡ answer.Token k n = rw (e, comment) in
-        subst (λ (a : Answer). Lexed σ s a) (sym q) (Lexed.token l (λ e′ f. never e (comment-faults y v h c l f .off)))
-    go false e =
-        let q : comment σ k n s ≡ commentBy k n (hidden (suc (length s)) s) = rw (e, comment) in
-        subst (λ (a : Answer). Lexed σ s a) (sym q) (inner e (hiddens (suc (length s)) (omega arith) w))
-
--- a token that is no comment, where no string is refused
-other-faults : {σ : Settings} {k : TokenKind} {n : ℕ} {s : List ℕ} {f : Fault} (y : ℕ) (v : List ℕ) → s ≡ y ∷ v
-    → (Comment k → ⊥) → Longest s k n
-    → (family y ≡ other → ⊥) → (family y ≡ run → ⊥) → ((t : List ℕ) → s ≡ bytes "(;" ++ t → ⊥)
-    → Fails σ s f → ⊥
-other-faults {σ} {k} {n} {s} y v h c l a b d f = go f refl
-  where
-    same-comment : {j k : TokenKind} → j ≡ k → Comment j → Comment k
-    same-comment e c = rw e at c
-
-    go : {s′ : List ℕ} {f : Fault} → Fails σ s′ f → s′ ≡ s → ⊥
-    go (Fails.dangling {t = t} g) q = d t (sym q)
-    go (Fails.unexpected {x = x} t ch g) q = let z : x ≡ y = cc in a (ap family (sym z) ∙ family-other x g)
-    go (Fails.comment t g c′ l′ pl ch cf i) q = c (same-comment (longest-one (rw q at l′) l .0) c′)
-    go (Fails.string r x) q = b (run-bad-head y v r x (q ∙ h))
-
--- ---- (f)
+use Rattle.wat.proofs.Scalars.{peek-char}
+use Rattle.wat.proofs.Runs.{run-fails, Walks, is-run, is-bad, walks}
+use Rattle.wat.proofs.Blocks.{block-ends, ended as block-ended}
+use Rattle.wat.proofs.Families.{Families, is-space, is-open, is-close, is-semi, is-single, is-char, is-quote, is-other, families}
+use Rattle.wat.proofs.Families.{family-space}
+use Rattle.wat.proofs.Unique.{semi-mark, family-open, family-close, family-semi, family-other, comment-head, longest-head}
+use Rattle.wat_laws.proofs.LongestOf.{longest-one-byte, longest-space, longest-line, block-at, longest-run, run-lenient}
+use Rattle.wat_laws.proofs.NoFault.{comment-lexed, other-faults}
 
 no-comment-lparen : Comment kind.LParen → ⊥
 no-comment-lparen c = elim c [ ]

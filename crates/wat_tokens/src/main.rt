@@ -1,4 +1,4 @@
-// wat-tokens: the tokens of standard input, one to a line, with the flag off. What it prints is made by `tokens_output`.
+// wat-tokens: the tokens of standard input, one to a line, with the flag off. `tokens_output` makes what it prints.
 use libc::STDIN_FILENO;
 use libc::STDOUT_FILENO;
 

@@ -1,7 +1,9 @@
 pub mod OneValue
+pub mod SomeValue
 pub mod Rows
 mod Examples
 pub mod OneReading
+pub mod ValueLengths
 pub mod ValueLaws
 pub mod ReadingLaws
 pub mod Readable

@@ -24,9 +24,11 @@ use Rattle.wat_values.specs.Names.{Misnamed}
 use Rattle.wat_values.specs.Reading.{There, own, needs, found, Handed, Read, Second}
 use Rattle.wat.proofs.Basics.{differ}
 use Rattle.wat_laws.proofs.Listings.{Whole, listed-whole}
-use Rattle.wat_values.proofs.OneValue.{reads-one, reads as reads-some}
+use Rattle.wat_values.proofs.OneValue.{reads-one}
+use Rattle.wat_values.proofs.SomeValue.{reads as reads-some}
 use Rattle.wat_values.proofs.OneReading.{read-one}
-use Rattle.wat_values.proofs.ValueLaws.{needs-short, Within, within}
+use Rattle.wat_values.proofs.ValueLengths.{needs-short}
+use Rattle.wat_values.proofs.ValueLaws.{Within, within}
 use Rattle.wat_values.proofs.ReadingLaws.{at-piece, is-token, token-long, is-there, is-alone, listed-stands, copy-taken}
 use Rattle.wat_values.proofs.ReadingLaws.{part-taken, refusal}
 

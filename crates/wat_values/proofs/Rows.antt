@@ -89,7 +89,11 @@ Holds r = Lexed plain (r .text) (r .answer) × Leaves (r .answer) (r .text) (r .
 
 -- the model gives each row's answer, and each row's text is well formed
 rows-right : map (λ (r : Row). lex plain (r .text)) rows ≡ map (λ (r : Row). r .answer) rows
-unfolding rows classify run strip after-dot fraction sign-of after-sign exponent at-end then decide finite is nothing-left payload unsigned digit between marks has scalar table front idchar letter space newline punctuation confusing control isScalar escapes peek hexOf digits encode closeBy numberBy firstBy braceBy secondBy escapeBy hides readBy read body walk opens ends family count word whole quotedKind runKind kindOf hidden comment lex
+unfolding rows classify run strip after-dot fraction sign-of after-sign exponent at-end then decide finite is
+    nothing-left payload unsigned digit between marks has scalar table front idchar letter space newline
+    punctuation confusing control isScalar escapes peek hexOf digits encode closeBy numberBy firstBy braceBy
+    secondBy escapeBy hides readBy read body walk opens ends family count word whole quotedKind runKind kindOf
+    hidden comment lex
 rows-right = refl
 
 rows-formed : map (λ (r : Row). checked (r .text)) rows ≡ map (λ (r : Row). Ok) rows

@@ -1,4 +1,4 @@
--- The readers' two calls, their refusals in the order 1, 2, 3, 4, 30, 31, 32, 22 to 24, and the lent buffer afterwards (docs/RULES.md, 11).
+-- The readers' two calls (docs/RULES.md, 11). Refusals come in the order 1 to 4, 30, 31, 32, 22 to 24.
 use Prim.Native.Nat.{ℕ, _+_, _≤_, _<_}
 use mathlib.Core.Path.{_≡_}
 use mathlib.Core.List.{List, [], _++_}
@@ -46,10 +46,11 @@ found offset (copy v) = Buffer 0 (length v)
 found offset absent = Absent
 found offset (refused v e) = Refused (Lexical e) offset
 
--- a value of a token at an offset, handed over: the answer, and the buffer afterwards; 32 where the buffer is shorter than the copy
+-- a value handed over, of a token at an offset: the answer, and the buffer afterwards; 32 if the copy is longer than it
 pub data Handed (offset : ℕ) (v : Value) (buffer : List ℕ) : Reading → List ℕ → Type 0 where
   too-short : length buffer < length (needs v) → Handed offset v buffer (Refused BufferTooShort noPlace) buffer
-  fits : length (needs v) ≤ length buffer → Handed offset v buffer (found offset v) (needs v ++ drop (length (needs v)) buffer)
+  fits : length (needs v) ≤ length buffer
+      → Handed offset v buffer (found offset v) (needs v ++ drop (length (needs v)) buffer)
 
 -- the first call: its answer, and the buffer afterwards
 pub data Read (reader : Reader) (text : List ℕ) (token : Token) (buffer : List ℕ) : Reading → List ℕ → Type 0 where
@@ -74,7 +75,8 @@ pub data ReadsSign (text : List ℕ) (token : Token) : IntegerSign → Type 0 wh
   missing : {r : Refusal} {p : ℕ} → Missing text token r p → ReadsSign text token (integer.Refused r p)
   other-kind : There text token → ((i : IntegerKind) → token .kind ≡ kind.Integer i → ⊥)
       → ReadsSign text token (integer.Refused NotThatKind noPlace)
-  sign : {i : IntegerKind} → There text token → token .kind ≡ kind.Integer i → ReadsSign text token (integer.Sign (i .sign))
+  sign : {i : IntegerKind} → There text token → token .kind ≡ kind.Integer i
+      → ReadsSign text token (integer.Sign (i .sign))
 
 -- whether a float is negative; a Normal's sign is in its integral part, and absent here
 abbrev pub negativeOf : FloatKind → FloatSign

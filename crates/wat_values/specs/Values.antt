@@ -5,7 +5,8 @@ use mathlib.Core.Bool.{Bool, true, false, _||_}
 use mathlib.Core.List.{List, [], _∷_, _++_}
 use lib.ListN.{length}
 use lib.Dec.{eqb}
-use Rattle.wat.specs.declared.{Sign.Sign, IntegerKind.IntegerKind, FloatKind.FloatKind, TokenKind.TokenKind, LexError.LexError}
+use Rattle.wat.specs.declared.{Sign.Sign, IntegerKind.IntegerKind, FloatKind.FloatKind}
+use Rattle.wat.specs.declared.{TokenKind.TokenKind, LexError.LexError}
 use Rattle.wat_values.specs.declared.FloatPart.{FloatPart}
 use Rattle.wat_values.specs.declared.FloatPart.the-variants as the
 use Rattle.wat.specs.declared.Sign.the-variants.{Unsigned, Plus, Minus}
@@ -13,7 +14,8 @@ use Rattle.wat.specs.declared.FloatKind.the-variants.{Inf, Nan, NanVal, Normal}
 use Rattle.wat.specs.declared.TokenKind.the-variants as kind
 use Rattle.wat.specs.declared.LexError.the-variants.{InvalidUtf8Id, EmptyId, EmptyAnnotation}
 use Rattle.wat.specs.declared.Checked.the-variants.{Ok, Bad}
-use Rattle.wat.specs.{Bytes.bytes, Bytes.byte, Bytes.has, Bytes.Each, Settings.lenient, Utf8.Says, Chars.idchar, Strings.Str}
+use Rattle.wat.specs.{Bytes.bytes, Bytes.byte, Bytes.has, Bytes.Each}
+use Rattle.wat.specs.{Settings.lenient, Utf8.Says, Chars.idchar, Strings.Str}
 use Rattle.wat.specs.Numbers.{prefix, nan-colon, Digits, Signed, Fraction, Exponent}
 
 pub data Reader : Type 0 where
@@ -64,7 +66,7 @@ kept Unsigned = []
 kept Plus = []
 kept Minus = bytes "-"
 
--- a name after its `$` or `@`: none may be empty (23, 24: the error e), and a quoted one is UTF-8 (22). It is copied if it has an escape
+-- a name after its `$` or `@`: not empty (23, 24: the error e), and UTF-8 if quoted (22); copied if it has an escape
 pub data Name (e : LexError) : List ℕ → Value → Type 0 where
   word : {x : ℕ} {w : List ℕ} → Each idchar true (x ∷ w) → Name e (x ∷ w) (part 1 (x ∷ w))
   nothing : Name e [] (refused [] e)
@@ -89,10 +91,12 @@ pub data Reads : Reader → TokenKind → List ℕ → Value → Type 0 where
   itself : {k : TokenKind} {w : List ℕ} → Reads src k w (part 0 w)
   a-string : {w v : List ℕ} → Str lenient w v → Reads string kind.String w (copyOrPart (has (byte "\\") w) 1 v)
   an-id : {w : List ℕ} {v : Value} → Name EmptyId w v → Reads id kind.Id (byte "$" ∷ w) v
-  an-annotation : {w : List ℕ} {v : Value} → Name EmptyAnnotation w v → Reads annotation kind.Annotation (byte "@" ∷ w) v
+  an-annotation : {w : List ℕ} {v : Value} → Name EmptyAnnotation w v
+      → Reads annotation kind.Annotation (byte "@" ∷ w) v
   -- `+10`: `10`, after 1 byte; `-1_0`: a copy, `-10`
   an-integer : {i : IntegerKind} {sign : Sign} {w u p : List ℕ} → Split (i .hex) w sign u p [] []
-      → Reads digits (kind.Integer i) w (copyOrPart (i .hex || i .underscores) (length (dropped sign)) (kept sign ++ bare p))
+      → Reads digits (kind.Integer i) w
+      (copyOrPart (i .hex || i .underscores) (length (dropped sign)) (kept sign ++ bare p))
   -- `-10.5e+3`: `-10`, after no byte; `-1_0.5e+3`: a copy, `-10`
   an-integral : {c h : Bool} {sign : Sign} {w u p f e : List ℕ} → Split h w sign u p f e
       → Reads (float the.Integral) (kind.Float (Normal c h)) w
@@ -105,7 +109,8 @@ pub data Reads : Reader → TokenKind → List ℕ → Value → Type 0 where
       → Reads (float the.Fraction) (kind.Float (Normal c h)) w absent
   -- `-10.5e+3`: `5`, after 4 bytes; `-1_0.5e+3`: a copy, `5`
   a-fraction : {c h : Bool} {sign : Sign} {w u p s e : List ℕ} → Split h w sign u p (byte "." ∷ s) e → Digits h s
-      → Reads (float the.Fraction) (kind.Float (Normal c h)) w (copyOrPart c (length (u ++ (prefix h ++ p)) + 1) (bare s))
+      → Reads (float the.Fraction) (kind.Float (Normal c h)) w
+      (copyOrPart c (length (u ++ (prefix h ++ p)) + 1) (bare s))
   -- no mark: `10.5`
   no-exponent : {c h : Bool} {sign : Sign} {w u p f : List ℕ} → Split h w sign u p f []
       → Reads (float the.Exponent) (kind.Float (Normal c h)) w absent

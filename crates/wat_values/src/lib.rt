@@ -1,4 +1,4 @@
-// What the readers answer. Which answer is right is said in specs/: what each reader leaves of a token's bytes, over wat's definitions.
+// What the readers answer. specs/ says which answer is right: what each reader leaves of a token's bytes.
 use wat::Refusal;
 use wat::Sign;
 

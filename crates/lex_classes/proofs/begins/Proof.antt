@@ -4,7 +4,7 @@ use mathlib.Core.Path.{sym, ap, _∙_}
 use Rattle.wat.specs.Bytes.{between, has}
 use Rattle.wat.specs.Chars.{space, idchar, punctuation}
 use Rattle.wat.specs.LexModel.{family}
-use Rattle.wat.proofs.Shapes.{family-space, family-idchar}
+use Rattle.wat.proofs.Families.{family-space, family-idchar}
 use Rattle.lex_classes.proofs.AskLaws.{family-single, family-none}
 use borrow.Author.Needs.{needs}
 use Rattle.lex_classes.proofs.begins.Statement.{statement}

@@ -4,7 +4,7 @@ use mathlib.Core.Path.{sym, ap, _∙_}
 use native.Mathlib.Omega.{arith}
 use borrow.Author.Needs.{needs}
 use lib.ListN.{length, drop}
-use Rattle.wat.proofs.Elements.{high-raw}
+use Rattle.wat.proofs.ElementFaults.{high-raw}
 use Rattle.utf8_chars.specs.Decoding.{Character}
 use Rattle.lex_escapes.proofs.CharLaws.{is-char, is-nothing, high, encoded}
 use Rattle.lex_escapes.proofs.ElementLaws.{an-element, a-refusal, read-nothing, read-hidden, read-raw}

@@ -1,6 +1,6 @@
 -- `utf8_chars::within` meets its contract. Assumes nothing.
 use mathlib.Core.Path.{sym}
-use Rattle.wat.proofs.Utf8Laws.{has-in, has-over}
+use Rattle.wat.proofs.Utf8Rows.{has-in, has-over}
 use Rattle.utf8_chars.proofs.FollowLaws.{has-under}
 use Rattle.utf8_chars.proofs.within.Statement.{statement}
 use Rattle.utf8_chars.proofs.within.Tie as tie

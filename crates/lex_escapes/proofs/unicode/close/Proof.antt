@@ -1,8 +1,8 @@
--- `lex_escapes::close` is the model's. Assumes nothing.
+-- `lex_escapes::unicode::close` is the model's. Assumes nothing.
 use mathlib.Core.Path.{refl}
 use Rattle.wat.specs.StringModel.{close}
-use Rattle.lex_escapes.proofs.close.Statement.{statement}
-use Rattle.lex_escapes.proofs.close.Tie as tie
+use Rattle.lex_escapes.proofs.unicode.close.Statement.{statement}
+use Rattle.lex_escapes.proofs.unicode.close.Tie as tie
 
 returns : tie.Need-returns
 returns c = (rw (c .if1 .taken, close), refl)

@@ -6,8 +6,8 @@ use Rattle.wat.specs.Cases.{kindNumber}
 use Rattle.wat.specs.LexModel.{wordKind}
 use Rattle.lex_numbers.proofs.KindLaws.{classified}
 use borrow.Author.Needs.{needs}
-use Rattle.lex_token.proofs.word_kind.Statement.{statement}
-use Rattle.lex_token.proofs.word_kind.Tie as tie
+use Rattle.lex_token.proofs.word_kinds.word_kind.Statement.{statement}
+use Rattle.lex_token.proofs.word_kinds.word_kind.Tie as tie
 
 classify-number-requires : tie.Need-classify-number-requires
 classify-number-requires c κs = search needs

@@ -1,4 +1,4 @@
--- `lex_escapes::first_digit` meets its contract, by the cases of `firstBy`. Assumes nothing.
+-- `lex_escapes::unicode::first_digit` meets its contract, by the cases of `firstBy`. Assumes nothing.
 use Prim.Native.Nat.{ℕ, _+_}
 use mathlib.Core.Path.{refl}
 use native.Mathlib.Omega.{arith}
@@ -7,8 +7,8 @@ use lib.ListN.{drop}
 use Rattle.utf8_chars.specs.Decoding.{Character}
 use Rattle.lex_escapes.proofs.CharLaws.{is-char, is-nothing, digit-is, digit-not}
 use Rattle.lex_escapes.proofs.ElementLaws.{a-refusal, says-same, first-end, first-yes, first-no}
-use Rattle.lex_escapes.proofs.first_digit.Statement.{statement}
-use Rattle.lex_escapes.proofs.first_digit.Tie as tie
+use Rattle.lex_escapes.proofs.unicode.first_digit.Statement.{statement}
+use Rattle.lex_escapes.proofs.unicode.first_digit.Tie as tie
 
 -- the places: the function's start; where a character is asked for; and where it is known
 abbrev start : tie.After-must-char → tie.Start

@@ -5,8 +5,8 @@ use Rattle.wat.specs.declared.Number.{Number}
 use Rattle.wat.specs.Cases.{kindNumber}
 use Rattle.wat.specs.LexModel.{wordKind}
 use borrow.Author.Needs.{needs}
-use Rattle.lex_token.proofs.named_kind.Statement.{statement}
-use Rattle.lex_token.proofs.named_kind.Tie as tie
+use Rattle.lex_token.proofs.word_kinds.named_kind.Statement.{statement}
+use Rattle.lex_token.proofs.word_kinds.named_kind.Tie as tie
 
 -- the kind of what a variant is known to hold is the kind of the number
 arm : (b : ℕ) {k : ℕ} {n m : Number} → n ≡ m → k ≡ kindNumber (wordKind m b) → k ≡ kindNumber (wordKind n b)

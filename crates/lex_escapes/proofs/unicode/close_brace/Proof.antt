@@ -1,4 +1,4 @@
--- `lex_escapes::close_brace` meets its contract, by the cases of `closeBy`. Assumes nothing.
+-- `lex_escapes::unicode::close_brace` meets its contract, by the cases of `closeBy`. Assumes nothing.
 use Prim.Native.Nat.{ℕ, _+_}
 use native.Mathlib.Omega.{arith}
 use borrow.Author.Needs.{needs}
@@ -6,8 +6,8 @@ use lib.ListN.{drop}
 use Rattle.utf8_chars.specs.Decoding.{Character}
 use Rattle.lex_escapes.proofs.CharLaws.{is-char, is-nothing, encode-short, scalar-small}
 use Rattle.lex_escapes.proofs.ElementLaws.{an-element, a-refusal, close-end, close-yes, close-no}
-use Rattle.lex_escapes.proofs.close_brace.Statement.{statement}
-use Rattle.lex_escapes.proofs.close_brace.Tie as tie
+use Rattle.lex_escapes.proofs.unicode.close_brace.Statement.{statement}
+use Rattle.lex_escapes.proofs.unicode.close_brace.Tie as tie
 
 -- the places: the function's start; where a character is asked for; and where it is known
 abbrev start : tie.After-must-char → tie.Start

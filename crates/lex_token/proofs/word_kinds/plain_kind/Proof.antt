@@ -3,8 +3,8 @@ use mathlib.Core.Path.{sym, ap, _∙_}
 use Rattle.wat.specs.Cases.{kindNumber}
 use Rattle.lex_token.proofs.KindLaws.{plain-id, plain-annotation, plain-letter, plain-other}
 use borrow.Author.Needs.{needs}
-use Rattle.lex_token.proofs.plain_kind.Statement.{statement}
-use Rattle.lex_token.proofs.plain_kind.Tie as tie
+use Rattle.lex_token.proofs.word_kinds.plain_kind.Statement.{statement}
+use Rattle.lex_token.proofs.word_kinds.plain_kind.Tie as tie
 
 returns : tie.Need-returns
 returns c = ap kindNumber (sym (plain-id _ (c .if1 .taken)))

@@ -1,4 +1,4 @@
--- `lex_escapes::open_brace` meets its contract, by the cases of `braceBy`. Assumes nothing.
+-- `lex_escapes::unicode::open_brace` meets its contract, by the cases of `braceBy`. Assumes nothing.
 use Prim.Native.Nat.{ℕ, _+_}
 use native.Mathlib.Omega.{arith}
 use borrow.Author.Needs.{needs}
@@ -6,8 +6,8 @@ use lib.ListN.{drop}
 use Rattle.utf8_chars.specs.Decoding.{Character}
 use Rattle.lex_escapes.proofs.CharLaws.{is-char, is-nothing}
 use Rattle.lex_escapes.proofs.ElementLaws.{a-refusal, says-same, brace-end, brace-yes, brace-no}
-use Rattle.lex_escapes.proofs.open_brace.Statement.{statement}
-use Rattle.lex_escapes.proofs.open_brace.Tie as tie
+use Rattle.lex_escapes.proofs.unicode.open_brace.Statement.{statement}
+use Rattle.lex_escapes.proofs.unicode.open_brace.Tie as tie
 
 -- the places: the function's start; where a character is asked for; and where it is known
 abbrev start : tie.After-must-char → tie.Start

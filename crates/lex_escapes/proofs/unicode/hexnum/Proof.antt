@@ -1,5 +1,5 @@
--- `lex_escapes::hexnum` meets its contract. The loop's invariant: from here on the model counts what it counts from the start. Assumes
--- nothing.
+-- `lex_escapes::unicode::hexnum` meets its contract. The loop's invariant: from here on the model counts what it counts from the start.
+-- Assumes nothing.
 use Prim.Native.Nat.{_-_}
 use mathlib.Core.Path.{_≡_}
 use mathlib.Core.Option.{some}
@@ -9,8 +9,8 @@ use lib.ListN.{length, getD}
 use Rattle.wat.specs.StringModel.{hexOf}
 use Rattle.lex_escapes.proofs.CharLaws.{digit-is, digit-not}
 use Rattle.lex_escapes.proofs.NumberLaws.{Run, run-start, run-under, run-digit, run-stop, run-end, run-big}
-use Rattle.lex_escapes.proofs.hexnum.Statement.{statement}
-use Rattle.lex_escapes.proofs.hexnum.Tie as tie
+use Rattle.lex_escapes.proofs.unicode.hexnum.Statement.{statement}
+use Rattle.lex_escapes.proofs.unicode.hexnum.Tie as tie
 
 abbrev Inv-loop : tie.InvT-loop
 Inv-loop s at first value₀ under₀ i₀ value under i = Run s at first i value under

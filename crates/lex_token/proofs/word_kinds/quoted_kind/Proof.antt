@@ -4,8 +4,8 @@ use native.Mathlib.Omega.{arith}
 use Rattle.wat.specs.Cases.{kindNumber}
 use Rattle.lex_token.proofs.KindLaws.{quoted-none, quoted-many, quoted-id, quoted-annotation, quoted-other}
 use borrow.Author.Needs.{needs}
-use Rattle.lex_token.proofs.quoted_kind.Statement.{statement}
-use Rattle.lex_token.proofs.quoted_kind.Tie as tie
+use Rattle.lex_token.proofs.word_kinds.quoted_kind.Statement.{statement}
+use Rattle.lex_token.proofs.word_kinds.quoted_kind.Tie as tie
 
 -- the place: the function's start, from where there is one idchar
 abbrev start : tie.After-shared-slice-known → tie.Start

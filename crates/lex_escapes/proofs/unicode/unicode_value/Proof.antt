@@ -1,4 +1,4 @@
--- `lex_escapes::unicode_value` meets its contract, by the cases of `numberBy`. Assumes nothing.
+-- `lex_escapes::unicode::unicode_value` meets its contract, by the cases of `numberBy`. Assumes nothing.
 use Prim.Native.Nat.{ℕ, _+_, _≤_}
 use mathlib.Core.Path.{_≡_, sym, _∙_}
 use mathlib.Core.Bool.{false}
@@ -11,8 +11,8 @@ use Rattle.wat.specs.declared.Num.the-variants.{Is, Lone, Big}
 use Rattle.lex_escapes.specs.Elements.{consumed, Counted}
 use Rattle.lex_escapes.proofs.NumberLaws.{counted-as}
 use Rattle.lex_escapes.proofs.ElementLaws.{a-refusal, says-same, number-scalar, number-value, number-lone, number-big}
-use Rattle.lex_escapes.proofs.unicode_value.Statement.{statement}
-use Rattle.lex_escapes.proofs.unicode_value.Tie as tie
+use Rattle.lex_escapes.proofs.unicode.unicode_value.Statement.{statement}
+use Rattle.lex_escapes.proofs.unicode.unicode_value.Tie as tie
 
 -- the places: the function's start; where the number was read, for each of the three answers; and where a number is known
 abbrev start : tie.After-hexnum → tie.Start
