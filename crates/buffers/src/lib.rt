@@ -36,7 +36,7 @@ fn six_byte(x: u32) -> u8
     low(0x80 + x % 0x40)
 }
 
-// The bytes of a scalar value, written at a place of a buffer that has the room; how many they are.
+// Writes the bytes of a scalar value at a place of a buffer that has the room; returns how many they are.
 pub fn encode_utf8(dst: &mut [u8], to: usize, v: u32) -> usize
     requires { ⌜ (v < 0x110000) × (to + length (encode v) ≤ length (now dst)) ⌝ }
     ensures { λ r. ⌜ Encoded (now (dst .entry)) (now (dst .exit)) to v r ⌝ }
@@ -63,7 +63,7 @@ pub fn encode_utf8(dst: &mut [u8], to: usize, v: u32) -> usize
     4
 }
 
-// n bytes of one slice, from a place on, written at a place of another.
+// Writes n bytes of one slice, from a place on, at a place of another.
 pub fn copy(dst: &mut [u8], to: usize, src: &[u8], from: usize, n: usize)
     requires { ⌜ (to + n ≤ length (now dst)) × (from + n ≤ length (now src)) ⌝ }
     ensures { λ _. ⌜ Put (now (dst .entry)) (now (dst .exit)) to (take n (drop from (now (src .entry)))) ⌝ }
@@ -75,7 +75,7 @@ pub fn copy(dst: &mut [u8], to: usize, src: &[u8], from: usize, n: usize)
     }
 }
 
-// The bytes of a text, written at a place of a buffer; answers where they end.
+// Writes the bytes of a text at a place of a buffer; returns where they end.
 pub fn append(out: &mut [u8], at: usize, text: &[u8]) -> usize
     requires { ⌜ at + length (now text) ≤ length (now out) ⌝ }
     ensures { λ r. ⌜ Added (now (out .entry)) (now (out .exit)) at (now (text .entry)) r ⌝ }

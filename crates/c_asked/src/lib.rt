@@ -27,8 +27,8 @@ fn no_token(offset: usize) -> Token
     }
 }
 
-// The token whose kind's number, offset and length are these. Where there can be none, one of no bytes at the offset: a
-// reader refuses it by 1 to 4 there, or by 30.
+// The token whose kind's number, offset and length are these; if there can be none, a token of no bytes at the offset,
+// which a reader refuses by 1 to 4 there, or by 30.
 pub fn token_of(w: [u64; 3]) -> Token
     ensures { λ t. ⌜ Asks w t ⌝ }
 {

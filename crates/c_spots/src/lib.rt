@@ -2,7 +2,7 @@
 ghost use Rattle.c_spots.specs.Spots.{PartWords, Lies, MovedWords};
 use place::Place;
 
-// A part of n bytes: what it is a part of, its start and its length; nothing where there is none such.
+// A part of n bytes: what it is a part of, its start and its length; nothing if there is no such part.
 fn part_words(what: u64, n: usize, start: u64, len: u64) -> [u64; 3]
     ensures { λ w. ⌜ Lies what n start len w ⌝ }
 {

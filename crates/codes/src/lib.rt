@@ -83,13 +83,13 @@ pub fn same_kind(a: TokenKind, b: TokenKind) -> bool
     kind_number(a) == kind_number(b)
 }
 
-// The kind that has a number, or that none has it.
+// The kind that has a number, if one has it.
 pub enum MaybeKind {
     Kind(TokenKind),
     NoKind,
 }
 
-// The detail that counts `bit` is in the sum `n`.
+// Whether the detail that counts `bit` is in the sum `n`.
 fn has(n: u16, bit: u16) -> bool
     requires { ⌜ 1 ≤ bit ⌝ }
     ensures { λ r. ⌜ r ≡ eqb (n / bit % 2) 1 ⌝ }

@@ -73,8 +73,8 @@ fn parse_at(text: &[u8], settings: Settings, pos: usize) -> Parsed
     }
 }
 
-// What is next at a place of a text that is checked: what every walk over the tokens of a text goes by, but for the
-// listing's loop. Places count from there.
+// What is next at a place of a checked text. Every walk over the tokens of a text calls this, except the listing's
+// loop. Places count from there.
 pub fn next(text: &[u8], at: usize, settings: Settings, t: &[u8; 256]) -> Answer
     requires { ⌜ at ≤ length (now text) ⌝ }
     requires { ⌜ WellFormed (drop at (now text)) ⌝ }
@@ -103,7 +103,7 @@ pub fn next(text: &[u8], at: usize, settings: Settings, t: &[u8; 256]) -> Answer
     }
 }
 
-// The error at a place before the end, for where `parse_kind` finds no token.
+// The error at a place before the end at which `parse_kind` finds no token.
 pub fn fault_at(s: &[u8], at: usize, settings: Settings, t: &[u8; 256]) -> Fault
     requires { ⌜ at < length (now s) ⌝ }
     requires { ⌜ WellFormed (drop at (now s)) ⌝ }

@@ -1,5 +1,5 @@
-// Classes of bytes and of characters, and the scans over them. Which bytes are meant is said in wat's definitions; a
-// class is asked for by a function, with the one table that is lent, so that the table can change and no caller has to.
+// Classes of bytes and of characters, and the scans over them. wat's definitions say which bytes are meant.
+// Callers ask for a class by a function, to which they lend the one table: so the table can change and no caller does.
 
 ghost use mathlib.Core.Path.{_≡_};
 ghost use mathlib.Core.Bool.{true, false};

@@ -5,7 +5,7 @@ use wat::Checked;
 use wat::Refusal;
 use wat::Token;
 
-// What a text and a position are refused by, 1 to 4.
+// By what a text and a position are refused, 1 to 4.
 pub enum Entry {
     Stands,
     Rejected { refusal: Refusal, place: usize },

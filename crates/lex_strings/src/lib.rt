@@ -104,7 +104,8 @@ pub fn decoded_len(s: &[u8], at: usize) -> usize
     }
 }
 
-// The bytes that a whole string stands for, written at the front of a buffer that has the room; how many they are.
+// Writes the bytes that a whole string stands for to the front of a buffer that has the room; returns how many they
+// are.
 pub fn decode_into(s: &[u8], at: usize, dst: &mut [u8]) -> usize
     requires { ⌜ (at ≤ length (now s)) × Closes (string lenient (drop at (now s))) ⌝ }
     requires { ⌜ length (valueOf (string lenient (drop at (now s)))) ≤ length (now dst) ⌝ }
@@ -144,7 +145,7 @@ pub fn decode_into(s: &[u8], at: usize, dst: &mut [u8]) -> usize
     }
 }
 
-// The fast paths from here on leave to `element` what they do not know.
+// The fast paths from here on leave to `element` what they do not decide.
 
 // The end of some raw characters from `at` on.
 fn raw_end(s: &[u8], at: usize) -> usize

@@ -37,7 +37,7 @@ impl<'a> Lexer<'a> {
         self.text
     }
 
-    // The lexer itself comes back: the same reference, at the same text and the new setting.
+    // Returns the lexer itself: the same reference, with the same text and the new setting.
     pub fn allow_confusing_unicode(&mut self, allow: bool) -> &mut Lexer<'a>
         ensures { λ r. ⌜ r ≡ at-last (self .entry) (allowing (now (self .entry)) allow) ⌝ }
     {

@@ -56,7 +56,7 @@ const LONGEST_LEAD: usize = 43;
 // The longest that follows one: two characters of twelve bytes each, the text between them and a quote.
 const LONGEST_REST: usize = 38;
 
-// What both calls answer. The message is made in a buffer that has room for any lead with any rest, and copied.
+// What both calls return. The message is made in a buffer that has room for any lead with any rest, and copied.
 fn tell(number: u64, first: u32, second: u32, buffer: &mut [u8]) -> Told
     ensures { λ m. ⌜ (m, now (buffer .exit)) ≡ answer number first second (now (buffer .entry)) ⌝ }
 {
@@ -72,7 +72,7 @@ fn tell(number: u64, first: u32, second: u32, buffer: &mut [u8]) -> Told
     Told::Written(n)
 }
 
-// The message at the front of `out`; answers its length.
+// Writes the message to the front of `out`; returns its length.
 fn fmt(number: u64, first: u32, second: u32, out: &mut [u8]) -> usize
     requires { ⌜ (10 ≤ number) × (number ≤ 24) × (length (now out) ≡ longestLead + longestRest) ⌝ }
     ensures { λ r. ⌜ Added (now (out .entry)) (now (out .exit)) 0 (message-of number first second) r ⌝ }
@@ -199,8 +199,8 @@ fn expected(out: &mut [u8], at: usize, wanted: u32, found: u32) -> usize
     quoted(out, open, found)
 }
 
-// The text with which the message of an error begins, by the error's number: `all` has one after the
-// other, and `places` says where each begins.
+// Writes the text with which the message of an error begins, by the error's number; returns its length. `all` has these
+// texts one after the other, and `places` says where each begins.
 fn lead(out: &mut [u8], number: u64) -> usize
     requires { ⌜ (10 ≤ number) × (number ≤ 24) × (longestLead ≤ length (now out)) ⌝ }
     ensures { λ r. ⌜ Added (now (out .entry)) (now (out .exit)) 0 (lead-of number) r × (r ≤ longestLead) ⌝ }

@@ -1,4 +1,4 @@
--- The place after the bytes, by functions that compute. `proofs/MoveLaws` shows that they decide `Moves` of wat.
+-- The place after the bytes, by functions that compute. `proofs/MoveLaws` shows that they decide `Moves`.
 use Prim.Native.Nat.{ℕ, _+_}
 use mathlib.Core.Bool.{true, false}
 use mathlib.Core.List.{List, [], _∷_}

@@ -10,7 +10,7 @@ pub fn new_place() -> Place
     Place { line: 1, column: 1 }
 }
 
-// The counter moves over the bytes of a token; or the answer is false, which is 35, and it stays.
+// Moves the counter over the bytes of a token; returns false, which is 35, and leaves it, if that is refused.
 pub fn move_over(p: &mut Place, w: &[u8]) -> bool
     ensures { λ r. ⌜ Moves (now (p .entry)) (now (w .entry)) (record { ok = r; place = now (p .exit) }) ⌝ }
 {

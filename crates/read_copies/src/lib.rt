@@ -98,7 +98,7 @@ fn bare_len(text: &[u8], from: usize, to: usize) -> usize
     n
 }
 
-// Those bytes, written from a place of the buffer on.
+// Writes those bytes from a place of the buffer on.
 fn bare_into(text: &[u8], from: usize, to: usize, buffer: &mut [u8], at: usize)
     requires { ⌜ (from ≤ to) × (to ≤ length (now text))
         × (at + length (bare (slice from to (now text))) ≤ length (now buffer)) ⌝ }

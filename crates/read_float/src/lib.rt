@@ -1,5 +1,4 @@
-// The readers of floats, the Rust's `Token::float`: its parts, asked for one by one, and whether it is
-// negative.
+// The readers of floats, the Rust's `Token::float`: its parts, one call for each, and whether it is negative.
 
 ghost use Rattle.wat_values.specs.declared.FloatPart.the-variants.{Integral, Fraction, Exponent, Payload};
 ghost use Rattle.wat_values.specs.Values.{float};

@@ -146,7 +146,7 @@ fn past_whole(text: &[u8], at: usize, end: usize, hex: bool) -> usize
     end_of(lex_numbers::skip_underscores(text, from, end, hex), end)
 }
 
-// The place that a part ends at; `end` where there is no such part, which nobody looks at.
+// Where a part ends; `end` if there is no such part, and then the value is unused.
 fn end_of(skip: Skip, end: usize) -> usize
     ensures { λ r. ⌜ ((text : List ℕ) (m : Past) (u : Bool) (v : List ℕ) → Skipped text end m skip → m ≡ past u v
         → Left text end v r) ⌝ }

@@ -20,7 +20,7 @@ pub fn part<'a>(text: &'a [u8], buffer: &'a [u8], reading: Reading) -> &'a [u8]
     }
 }
 
-// So many bytes from a start on; none where there are not so many.
+// So many bytes from a start on; none if there are fewer.
 fn sub<'a>(s: &'a [u8], start: usize, len: usize) -> &'a [u8]
     ensures { λ r. ⌜ PartOf (now (s .entry)) start len (now r) ⌝ }
 {

@@ -1,5 +1,5 @@
 // Answers of the Rust, recorded by `oracle record` (tests/oracle), replayed against Thallusweb: how many agree, by
-// type of row. The rows of the file `answers` are told of in `replay_rows`.
+// type of row. `replay_rows` describes the rows of the file `answers`.
 ghost use Prim.Native.Nat.{_<_};
 ghost use mathlib.Core.Path.{_≡_};
 ghost use lib.ListN.{length};
@@ -78,7 +78,7 @@ fn read_agrees(row: &[u8], text: &[u8]) -> bool
     replay_rows::agrees(row, answer) & replay_rows::bytes_agree(row, &buffer, 64)
 }
 
-// A row's type, doubled, and one more where the answers differ; 0 for no row.
+// A row's type, doubled, and one more if the answers differ; 0 for no row.
 fn replayed(row: &[u8]) -> usize
     ensures { λ r. ⌜ r < 10 ⌝ }
 {

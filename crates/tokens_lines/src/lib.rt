@@ -19,7 +19,7 @@ pub const LONGEST_LINE: usize = 48;
 // The most figures of a number.
 const MOST_FIGURES: usize = 20;
 
-// ---- parts of a line; each function answers where its bytes end
+// ---- parts of a line; each function returns where its bytes end
 
 // The detail of the kind whose words these are.
 fn append_detail(out: &mut [u8], to: usize, p: Parts) -> usize

@@ -1,5 +1,4 @@
-// What `wat-tokens` prints of a text. specs/Output.antt says it over wat's
-// definitions, and `render` is proved to make just that.
+// What `wat-tokens` prints of a text. specs/Output.antt says it over wat's definitions, and `render` makes just that.
 ghost use Prim.Native.Nat.{_≤_};
 ghost use lib.ListN.{length, take};
 ghost use Rattle.wat.specs.Calls.{Stands};
@@ -46,7 +45,7 @@ fn render_from(text: &[u8], out: &mut [u8], from: usize) -> usize
     }
 }
 
-// What is printed of a text, at the front of the buffer; answers its length.
+// What is printed of a text, at the front of the buffer; returns its length.
 pub fn render(text: &[u8], out: &mut [u8; ROOM]) -> usize
     ensures { λ r. ⌜ Output (now (text .entry)) (take r (now (out .exit))) × Counts r (now (out .exit)) ⌝ }
 {

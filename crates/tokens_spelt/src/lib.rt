@@ -86,7 +86,7 @@ const DASH: Span = Span { start: 167, len: 1 };
 
 const NOTHING: Span = Span { start: 0, len: 0 };
 
-// A word, written at a place of a buffer; answers where it ends.
+// Writes a word at a place of a buffer; returns where it ends.
 pub fn append_word(out: &mut [u8], to: usize, w: Span) -> usize
     requires { ⌜ (w .start + w .len ≤ length words) × (to + w .len ≤ length (now out)) ⌝ }
     ensures { λ r. ⌜ ((v : List ℕ) → Spells w v → Added (now (out .entry)) (now (out .exit)) to v r)
