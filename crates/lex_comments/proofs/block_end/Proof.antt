@@ -13,6 +13,23 @@ Inv-loop s at level₀ i₀ level i = Inside s at i level
 abbrev μ-loop : tie.MeasureT-loop
 μ-loop s at level₀ i₀ level i = length s - i
 
+-- the places: where a round begins; the function's start; and where a byte is found that may begin a mark, seen from where it is `(` and
+-- from where it is `;`
+abbrev round : tie.After-memchr2 Inv-loop μ-loop → tie.At-loop Inv-loop μ-loop
+round c = c .before .before
+
+abbrev start : tie.After-memchr2 Inv-loop μ-loop → tie.Start Inv-loop μ-loop
+start c = round c .before .before
+
+abbrev found : tie.After-shared-slice-known3 Inv-loop μ-loop → tie.After-memchr2 Inv-loop μ-loop
+found c = c .before .before .before
+
+abbrev paren : tie.Then2 Inv-loop μ-loop → tie.After-memchr2 Inv-loop μ-loop
+paren c = found (c .before)
+
+abbrev semicolon : tie.Else2 Inv-loop μ-loop → tie.After-memchr2 Inv-loop μ-loop
+semicolon c = found (c .before)
+
 loop-holds : tie.Need-loop-holds Inv-loop μ-loop
 loop-holds c = inside-start _ _ (c .before .pre)
 
@@ -21,9 +38,9 @@ memchr2-requires c κs = (omega arith, omega arith)
 
 -- at the next byte that may begin a mark
 reached :
-    (c : tie.After-memchr2 Inv-loop μ-loop) → let a = c .before .before .before .before .args in
-    Inside (a .s .now) (a .at) (c .memchr2 .result) (c .before .before .loop .level)
-reached c = let l = c .before .before .loop in
+    (c : tie.After-memchr2 Inv-loop μ-loop) → let a = start c .args in
+    Inside (a .s .now) (a .at) (c .memchr2 .result) (round c .loop .level)
+reached c = let l = round c .loop in
     inside-plain _ _ (l .i) (l .level) (c .memchr2 .result) (l .inv) (c .memchr2 .ensures .passed)
 
 sub-if1 : tie.Need-sub-if1 Inv-loop μ-loop
@@ -52,7 +69,8 @@ loop-less c = omega arith
 
 loop-again : tie.Need-loop-again Inv-loop μ-loop
 loop-again c =
-    inside-open _ _ _ _ (reached (c .before .before .before .before .before)) (omega arith) (c .before .if2 .taken) (c .if3 .taken)
+    let p = c .before in
+    inside-open _ _ _ _ (reached (paren p)) (omega arith) (p .if2 .taken) (c .if3 .taken)
 
 add-i-2 : tie.Need-add-i-2 Inv-loop μ-loop
 add-i-2 c = omega arith
@@ -62,16 +80,19 @@ loop-less-2 c = omega arith
 
 loop-again-2 : tie.Need-loop-again-2 Inv-loop μ-loop
 loop-again-2 c =
-    inside-paren _ _ _ _ (reached (c .before .before .before .before .before)) (omega arith) (c .before .if2 .taken) (c .if3 .left)
+    let p = c .before in
+    inside-paren _ _ _ _ (reached (paren p)) (omega arith) (p .if2 .taken) (c .if3 .left)
 
 add-result : tie.Need-add-result Inv-loop μ-loop
 add-result c = omega arith
 
 returns-2 : tie.Need-returns-2 Inv-loop μ-loop
 returns-2 c =
-    let m = c .before .before .before .before .before .before in
-    inside-last _ _ _ _ (reached m) (omega arith) (m .memchr2 .ensures .stops (omega arith)) (c .before .before .if2 .left)
-    (c .before .if4 .taken) (c .if5 .taken)
+    let closed = c .before in
+    let e = closed .before in
+    let m = semicolon e in
+    inside-last _ _ _ _ (reached m) (omega arith) (m .memchr2 .ensures .stops (omega arith)) (e .if2 .left) (closed .if4 .taken)
+    (c .if5 .taken)
 
 sub-level : tie.Need-sub-level Inv-loop μ-loop
 sub-level c = omega arith
@@ -84,9 +105,11 @@ loop-less-3 c = omega arith
 
 loop-again-3 : tie.Need-loop-again-3 Inv-loop μ-loop
 loop-again-3 c =
-    let m = c .before .before .before .before .before .before in
-    inside-close _ _ _ _ (reached m) (omega arith) (m .memchr2 .ensures .stops (omega arith)) (c .before .before .if2 .left)
-    (c .before .if4 .taken) (omega arith)
+    let closed = c .before in
+    let e = closed .before in
+    let m = semicolon e in
+    inside-close _ _ _ _ (reached m) (omega arith) (m .memchr2 .ensures .stops (omega arith)) (e .if2 .left) (closed .if4 .taken)
+    (omega arith)
 
 add-i-4 : tie.Need-add-i-4 Inv-loop μ-loop
 add-i-4 c = omega arith
@@ -96,8 +119,9 @@ loop-less-4 c = omega arith
 
 loop-again-4 : tie.Need-loop-again-4 Inv-loop μ-loop
 loop-again-4 c =
-    let m = c .before .before .before .before .before in
-    inside-semicolon _ _ _ _ (reached m) (omega arith) (m .memchr2 .ensures .stops (omega arith)) (c .before .if2 .left) (c .if4 .left)
+    let e = c .before in
+    let m = semicolon e in
+    inside-semicolon _ _ _ _ (reached m) (omega arith) (m .memchr2 .ensures .stops (omega arith)) (e .if2 .left) (c .if4 .left)
 
 returns-3 : tie.Need-returns-3 Inv-loop μ-loop
 returns-3 c = inside-none _ _ _ _ (c .before .loop .inv) (omega arith)

@@ -15,6 +15,16 @@ Inv-loop s from to i₀ i = Seen s from to i
 abbrev μ-loop : tie.MeasureT-loop
 μ-loop s from to i₀ i = length s - i
 
+-- the places: where a round begins; the function's start; and where the byte 0xE2 is found, seen from where the character is asked about
+abbrev round : tie.After-memchr2 Inv-loop μ-loop → tie.At-loop Inv-loop μ-loop
+round c = c .before .before
+
+abbrev start : tie.After-memchr2 Inv-loop μ-loop → tie.Start Inv-loop μ-loop
+start c = round c .before .before
+
+abbrev found : tie.After-is-confusing-unicode Inv-loop μ-loop → tie.After-memchr2 Inv-loop μ-loop
+found c = c .before .before .before
+
 loop-holds : tie.Need-loop-holds Inv-loop μ-loop
 loop-holds c = seen-start _ _ _ (omega arith) (c .before .pre .1)
 
@@ -23,9 +33,9 @@ memchr2-requires c κs = (omega arith, omega arith)
 
 -- at the next byte 0xE2, or past the comment
 reached :
-    (c : tie.After-memchr2 Inv-loop μ-loop) → let a = c .before .before .before .before .args in
+    (c : tie.After-memchr2 Inv-loop μ-loop) → let a = start c .args in
     Seen (a .s .now) (a .from) (a .to) (c .memchr2 .result)
-reached c = let l = c .before .before .loop in seen-plain _ _ _ (l .i) (c .memchr2 .result) (l .inv) (c .memchr2 .ensures .passed)
+reached c = let l = round c .loop in seen-plain _ _ _ (l .i) (c .memchr2 .result) (l .inv) (c .memchr2 .ensures .passed)
 
 returns : tie.Need-returns Inv-loop μ-loop
 returns c = seen-clear _ _ _ _ (reached (c .before)) (omega arith)
@@ -33,23 +43,23 @@ returns c = seen-clear _ _ _ _ (reached (c .before)) (omega arith)
 char-at-requires : tie.Need-char-at-requires Inv-loop μ-loop
 char-at-requires c κs =
     let m = c .before in
-    seen-whole _ _ _ _ (reached m) (omega arith) (m .memchr2 .ensures .stops (omega arith)) (m .before .before .before .before .pre .1)
+    seen-whole _ _ _ _ (reached m) (omega arith) (m .memchr2 .ensures .stops (omega arith)) (start m .pre .1)
 
 is-confusing-unicode-requires : tie.Need-is-confusing-unicode-requires Inv-loop μ-loop
 is-confusing-unicode-requires c κs = tt
 
 -- what the code asks of the character it decoded
 asked :
-    (c : tie.After-is-confusing-unicode Inv-loop μ-loop) → let a = c .before .before .before .before .before .before .before .args in
-    confusing (scalar (take 3 (drop (c .before .before .before .memchr2 .result) (a .s .now)))) ≡ c .is-confusing-unicode .result
+    (c : tie.After-is-confusing-unicode Inv-loop μ-loop) → let m = found c in
+    confusing (scalar (take 3 (drop (m .memchr2 .result) (start m .args .s .now)))) ≡ c .is-confusing-unicode .result
 asked c = ap confusing (sym (c .before .char-at .ensures)) ∙ sym (c .is-confusing-unicode .ensures)
 
 returns-2 : tie.Need-returns-2 Inv-loop μ-loop
 returns-2 c =
-    let m = c .before .before .before .before in
-    rw (c .before .before .char-at .ensures)
-    (seen-found _ _ _ _ (reached m) (omega arith) (m .memchr2 .ensures .stops (omega arith)) (asked (c .before) ∙ c .if2 .taken)
-    (omega arith))
+    let q = c .before in
+    let m = found q in
+    rw (q .before .char-at .ensures)
+    (seen-found _ _ _ _ (reached m) (omega arith) (m .memchr2 .ensures .stops (omega arith)) (asked q ∙ c .if2 .taken) (omega arith))
 
 add-i : tie.Need-add-i Inv-loop μ-loop
 add-i c = omega arith
@@ -58,7 +68,7 @@ loop-less : tie.Need-loop-less Inv-loop μ-loop
 loop-less c = omega arith
 
 loop-again : tie.Need-loop-again Inv-loop μ-loop
-loop-again c = seen-next _ _ _ _ (reached (c .before .before .before .before)) (omega arith) (asked (c .before) ∙ c .if2 .left)
+loop-again c = let q = c .before in seen-next _ _ _ _ (reached (found q)) (omega arith) (asked q ∙ c .if2 .left)
 
 returns-3 : tie.Need-returns-3 Inv-loop μ-loop
 returns-3 c = seen-clear _ _ _ _ (c .before .loop .inv) (omega arith)

@@ -50,8 +50,9 @@ returns-2 c = search needs
 
 returns-3 : tie.Need-returns-3
 returns-3 c =
-    let a = start (c .before) .args in
-    let ch = character (c .before) in
+    let e = c .before in
+    let a = start e .args in
+    let ch = character e in
     (read-quoted (a .s .now) (a .at) _ _ ch _ (c .if3 .taken), omega (arith, length-drop (a .at) (a .s .now), ch .fits))
 
 escape-requires : tie.Need-escape-requires
@@ -59,10 +60,12 @@ escape-requires c κs = omega (arith, character (c .before .before) .fits)
 
 returns-4 : tie.Need-returns-4
 returns-4 c =
-    let other = c .before .before in
-    let a = start (other .before) .args in
-    let e = read-escape (a .s .now) (a .at) _ _ (character (other .before)) _ (other .if3 .left) (c .before .if4 .taken) in
-    says-same (a .s .now) (a .at) (c .escape .result) e (c .escape .ensures)
+    let t = c .before in
+    let other = t .before in
+    let e = other .before in
+    let a = start e .args in
+    let is = read-escape (a .s .now) (a .at) _ _ (character e) _ (other .if3 .left) (t .if4 .taken) in
+    says-same (a .s .now) (a .at) (c .escape .result) is (c .escape .ensures)
 
 wide-requires : tie.Need-wide-requires
 wide-requires c κs = search needs
@@ -72,20 +75,22 @@ is-control-requires c κs = search needs
 
 returns-5 : tie.Need-returns-5
 returns-5 c =
-    let w = c .before .before in
+    let asked = c .before in
+    let w = asked .before in
     let a = start (ascii w) .args in
     let ch = plain w in
-    let control = sym (c .before .is-control .ensures) ∙ c .if5 .taken in
+    let control = sym (asked .is-control .ensures) ∙ c .if5 .taken in
     a-refusal (a .s .now) (a .at) (read-control (a .s .now) (a .at) _ _ ch _ (no-quote w) (no-escape w) control) (omega arith)
     (omega (arith, ch .fits))
 
 returns-6 : tie.Need-returns-6
 returns-6 c =
-    let w = c .before .before in
+    let asked = c .before in
+    let w = asked .before in
     let a = start (ascii w) .args in
     let ch = plain w in
     let v = w .wide .result in
-    let raw = sym (c .before .is-control .ensures) ∙ c .if5 .left in
+    let raw = sym (asked .is-control .ensures) ∙ c .if5 .left in
     let shown = ascii-shown _ v (omega (arith, w .wide .ensures)) in
     let e = read-raw (a .s .now) (a .at) v _ ch _ (no-quote w) (no-escape w) raw shown in
     let short = ap length (encoded (a .s .now) (a .at) v _ ch) in

@@ -14,15 +14,19 @@ use Rattle.lex_escapes.proofs.ElementLaws.{escape-end, escape-unicode, 
 use Rattle.lex_escapes.proofs.escape.Statement.{statement}
 use Rattle.lex_escapes.proofs.escape.Tie as tie
 
--- the places: the function's start; where a character is asked for; where it is known; and where it was looked up among the letters
+-- the places: the function's start; where a character is asked for; where it is not `u`; where it is known; and where it was looked up
+-- among the letters
 abbrev start : tie.After-must-char → tie.Start
 start c = c .before .before
 
 abbrev asked : tie.After-known-told → tie.After-must-char
 asked c = c .before .before .before
 
+abbrev not-u : tie.After-letter → tie.Else1
+not-u c = c .before
+
 abbrev told : tie.After-letter → tie.After-known-told
-told c = c .before .before
+told c = not-u c .before
 
 abbrev lettered : tie.After-to-hex → tie.After-letter
 lettered c = c .before .before
@@ -69,9 +73,10 @@ open-brace-requires c κs = let ch = character (c .before) in omega (arith, ch .
 
 returns-2 : tie.Need-returns-2
 returns-2 c =
-    let ch = c .before .before in
+    let t = c .before in
+    let ch = t .before in
     let a = start (asked ch) .args in
-    let e = escape-unicode (a .s .now) (a .at + 1) _ _ (character ch) (a .settings) (a .at + 2) (omega arith) (c .before .if1 .taken) in
+    let e = escape-unicode (a .s .now) (a .at + 1) _ _ (character ch) (a .settings) (a .at + 2) (omega arith) (t .if1 .taken) in
     says-same (a .s .now) (a .at) (c .open-brace .result) e (c .open-brace .ensures)
 
 letter-requires : tie.Need-letter-requires
@@ -83,7 +88,7 @@ returns-3 c =
     let a = start (asked (told l)) .args in
     let ch = character (told l) in
     let is = letter-is (l .letter .result) (l .letter .ensures) (c .if2 .taken) in
-    let e = escape-letter (a .s .now) (a .at + 1) _ _ ch (l .before .if1 .left) (a .settings) (l .letter .result) is in
+    let e = escape-letter (a .s .now) (a .at + 1) _ _ ch (not-u l .if1 .left) (a .settings) (l .letter .result) is in
     an-element (a .s .now) (a .at) e (omega arith) (omega (arith, ch .fits, ch .some)) (omega arith)
 
 to-hex-requires : tie.Need-to-hex-requires
@@ -94,13 +99,14 @@ second-digit-requires c κs = let ch = character (told (lettered (c .before))) i
 
 returns-4 : tie.Need-returns-4
 returns-4 c =
-    let h = c .before .before in
+    let t = c .before in
+    let h = t .before in
     let l = lettered h in
     let a = start (asked (told l)) .args in
     let v = value (told l) in
-    let d = digit-is v v _ refl (h .to-hex .ensures) (c .before .if3 .taken) in
+    let d = digit-is v v _ refl (h .to-hex .ensures) (t .if3 .taken) in
     let e =
-    escape-digit (a .s .now) (a .at + 1) v _ (character (told l)) (l .before .if1 .left) (no-letter h) (a .settings) (a .at + 2) _
+    escape-digit (a .s .now) (a .at + 1) v _ (character (told l)) (not-u l .if1 .left) (no-letter h) (a .settings) (a .at + 2) _
     (omega arith) d in
     says-same (a .s .now) (a .at) (c .second-digit .result) e (c .second-digit .ensures)
 
@@ -115,7 +121,7 @@ returns-5 c =
     let v = value (told l) in
     let ch = character (told l) in
     let d = digit-not v v _ refl (h .to-hex .ensures) (c .if3 .left) in
-    let e = escape-no (a .s .now) (a .at + 1) v _ ch (l .before .if1 .left) (no-letter h) (a .settings) d in
+    let e = escape-no (a .s .now) (a .at + 1) v _ ch (not-u l .if1 .left) (no-letter h) (a .settings) d in
     a-refusal (a .s .now) (a .at) e (omega arith) (omega (arith, ch .fits))
 
 pub escape-spec : {M : Type 1} → statement M

@@ -10,9 +10,30 @@ use borrow.Author.Needs.{needs}
 use Rattle.lex_token.proofs.parse_kind.Statement.{statement}
 use Rattle.lex_token.proofs.parse_kind.Tie as tie
 
--- the place: the function's start, from where the family is known
+-- the places: the function's start, from where the family is looked at; and that place, from where each family is known
 abbrev start : tie.After-begins → tie.Start
 start c = c .before .before .before
+
+abbrev spaces : tie.After-enum-told → tie.After-begins
+spaces c = c .before .before
+
+abbrev opening : tie.After-enum-told2 → tie.After-begins
+opening c = c .before .before
+
+abbrev closing : tie.After-enum-told3 → tie.After-begins
+closing c = c .before .before
+
+abbrev single : tie.After-enum-told4 → tie.After-begins
+single c = c .before .before
+
+abbrev semi : tie.After-enum-told5 → tie.After-begins
+semi c = c .before .before
+
+abbrev run : tie.After-enum-told6 → tie.After-begins
+run c = c .before .before
+
+abbrev other : tie.After-enum-told7 → tie.After-begins
+other c = c .before .before
 
 module _ (c : tie.After-begins) {f : Family} (e : c .begins .result ≡ f) where
   begun : family (getD (start c .args .s .now) (start c .args .at) 0) ≡ f
@@ -68,8 +89,8 @@ enum-told-6 c = search needs
 
 parse-reserved-requires : tie.Need-parse-reserved-requires
 parse-reserved-requires c κs =
-    let p = start (c .before .before) .pre in
-    ((p .0, begun (c .before .before) (c .enum-told6 .given .1)), (p .1 .0, p .1 .1))
+    let p = start (run c) .pre in
+    ((p .0, begun (run c) (c .enum-told6 .given .1)), (p .1 .0, p .1 .1))
 
 enum-told-7 : tie.Need-enum-told-7
 enum-told-7 c = search needs
@@ -79,27 +100,27 @@ nothing-requires c κs = search needs
 
 returns : tie.Need-returns
 returns c =
-    let b = c .before .before .before in
+    let b = spaces (c .before) in
     let e = c .before .enum-told .given .1 in
     read b e (spaces-step _ _ (start b .pre .0) (begun b e) (c .skip-ws .ensures))
 
 returns-2 : tie.Need-returns-2
-returns-2 c = read (c .before .before .before) (c .before .enum-told2 .given .1) (c .open-paren .ensures)
+returns-2 c = let t = c .before in read (opening t) (t .enum-told2 .given .1) (c .open-paren .ensures)
 
 returns-3 : tie.Need-returns-3
-returns-3 c = read (c .before .before) (c .enum-told3 .given .1) refl
+returns-3 c = read (closing c) (c .enum-told3 .given .1) refl
 
 returns-4 : tie.Need-returns-4
-returns-4 c = read (c .before .before) (c .enum-told4 .given .1) refl
+returns-4 c = read (single c) (c .enum-told4 .given .1) refl
 
 returns-5 : tie.Need-returns-5
-returns-5 c = read (c .before .before .before) (c .before .enum-told5 .given .1) (c .semicolon .ensures)
+returns-5 c = let t = c .before in read (semi t) (t .enum-told5 .given .1) (c .semicolon .ensures)
 
 returns-6 : tie.Need-returns-6
-returns-6 c = read (c .before .before .before) (c .before .enum-told6 .given .1) (c .parse-reserved .ensures)
+returns-6 c = let t = c .before in read (run t) (t .enum-told6 .given .1) (c .parse-reserved .ensures)
 
 returns-7 : tie.Need-returns-7
-returns-7 c = read (c .before .before .before) (c .before .enum-told7 .given .1) (c .nothing .ensures ∙ other-step _ _)
+returns-7 c = let t = c .before in read (other t) (t .enum-told7 .given .1) (c .nothing .ensures ∙ other-step _ _)
 
 pub parse-kind-spec : {M : Type 1} → statement M
 parse-kind-spec =

@@ -16,8 +16,7 @@ use Rattle.lex_token.proofs.ReservedLaws.{word-some, word-step, word-fa
 use Rattle.lex_token.proofs.parse_reserved.Statement.{statement}
 use Rattle.lex_token.proofs.parse_reserved.Tie as tie
 
--- the places: the function's start; where the idchars end, if no quotation mark follows and if one does; where the string was read, if it
--- is closed and if it fails; and where the run after it was read, if it stops and if it fails
+-- the places: the function's start; where the idchars end, if no quotation mark follows and if one does
 abbrev start : tie.After-idchars-end → tie.Start
 start c = c .before .before
 
@@ -27,6 +26,7 @@ word c = c .before .before
 abbrev idchars : tie.Else1 → tie.After-idchars-end
 idchars c = c .before .before
 
+-- where the string was read, if it is closed and if it fails
 abbrev marked : tie.After-parse-str → tie.Else1
 marked c = c .before
 
@@ -36,11 +36,25 @@ closed c = c .before .before .before
 abbrev failed : tie.After-nothing → tie.After-parse-str
 failed c = c .before .before .before
 
+-- where the run after a closed string was read, if it stops and if it fails
 abbrev stopped : tie.After-known-told2 → tie.After-parse-run
 stopped c = c .before .before .before
 
 abbrev broken : tie.After-nothing2 → tie.After-parse-run
 broken c = c .before .before .before
+
+abbrev told : tie.After-known-told2 → tie.After-known-told
+told c = stopped c .before
+
+-- the idchars before a closed string, where the string ends, and where the run after it stops
+abbrev first : tie.After-known-told → tie.After-idchars-end
+first c = idchars (marked (closed c))
+
+abbrev string-end : tie.After-known-told → ℕ
+string-end c = c .before .j .given .0 .0
+
+abbrev run-end : tie.After-known-told2 → ℕ
+run-end c = c .before .k .given .0 .0
 
 -- no quotation mark follows: there is a word
 unquoted : (c : tie.Then1) → next (byte "\"") (drop (word c .idchars-end .result) (start (word c) .args .s .now)) ≡ false
@@ -58,20 +72,17 @@ follows c = string-follows _ _ (quote c)
 
 -- a whole string follows
 string :
-    (c : tie.After-known-told) → let i = idchars (marked (closed c)) in let a = start i .args in
-    Quoted (a .settings) (a .s .now) (i .idchars-end .result) (c .before .j .given .0 .0)
+    (c : tie.After-known-told) → let a = start (first c) .args in
+    Quoted (a .settings) (a .s .now) (first c .idchars-end .result) (string-end c)
 string c =
-    let m = marked (closed c) in
-    let i = idchars m in
+    let i = first c in
     let formed = ran-idchars (i .idchars-end .ensures) {σ = start i .args .settings} (start i .pre .1 .0) .formed in
-    parsed-closed _ _ (quote m) _ (closed c .parse-str .ensures) formed (c .before .j .given .1)
+    parsed-closed _ _ (quote (marked (closed c))) _ (closed c .parse-str .ensures) formed (c .before .j .given .1)
 
 -- and n bytes of a run
 rest :
-    (c : tie.After-known-told2) → let told = stopped c .before in
-    let a = start (idchars (marked (closed told))) .args in
-    let j = told .before .j .given .0 .0 in
-    (n : ℕ) × (walked (a .settings) (drop j (a .s .now)) ≡ Stops n) × (c .before .k .given .0 .0 ≡ j + n)
+    (c : tie.After-known-told2) → let a = start (first (told c)) .args in let j = string-end (told c) in
+    (n : ℕ) × (walked (a .settings) (drop j (a .s .now)) ≡ Stops n) × (run-end c ≡ j + n)
 rest c = stops-of _ _ (sym (stopped c .parse-run .ensures) ∙ c .before .k .given .1)
 
 idchars-end-requires : tie.Need-idchars-end-requires
@@ -85,8 +96,9 @@ word-kind-requires c κs = (some c, word c .idchars-end .ensures .within)
 
 returns : tie.Need-returns
 returns c =
-    let i = word (c .before) in
-    word-step _ _ _ _ (i .idchars-end .ensures) (start i .pre .1 .0) (unquoted (c .before)) (some (c .before)) (c .word-kind .ensures)
+    let w = c .before in
+    let i = word w in
+    word-step _ _ _ _ (i .idchars-end .ensures) (start i .pre .1 .0) (unquoted w) (some w) (c .word-kind .ensures)
 
 add-parse-str : tie.Need-add-parse-str
 add-parse-str c = search needs
@@ -104,7 +116,7 @@ enum-known-j : tie.Need-enum-known-j
 enum-known-j c = search needs
 
 parse-run-requires : tie.Need-parse-run-requires
-parse-run-requires c κs = let r = string c .ran in (r .within, (r .formed, start (idchars (marked (closed c))) .pre .1 .1))
+parse-run-requires c κs = let r = string c .ran in (r .within, (r .formed, start (first c) .pre .1 .1))
 
 enum-told-2 : tie.Need-enum-told-2
 enum-told-2 c = search needs
@@ -121,10 +133,9 @@ quoted-kind-requires c κs = search needs
 returns-2 : tie.Need-returns-2
 returns-2 c =
     let k = c .before .before in
-    let told = stopped k .before in
-    let i = idchars (marked (closed told)) in
+    let i = first (told k) in
     let n = rest k in
-    string-step _ _ _ _ _ (i .idchars-end .ensures) (start i .pre .1 .0) (string told) (n .0) (n .1) (omega (arith, n .2))
+    string-step _ _ _ _ _ (i .idchars-end .ensures) (start i .pre .1 .0) (string (told k)) (n .0) (n .1) (omega (arith, n .2))
     (c .quoted-kind .ensures)
 
 returns-3 : tie.Need-returns-3
@@ -136,18 +147,17 @@ returns-3 c =
 
 returns-4 : tie.Need-returns-4
 returns-4 c =
-    let r = broken c in
-    let i = idchars (marked (closed (r .before))) in
-    let f = fails-of _ _ (sym (r .parse-run .ensures) ∙ c .before .enum-told2 .given .1) in
-    c .nothing2 .ensures ∙ string-fails _ _ _ _ _ (i .idchars-end .ensures) (start i .pre .1 .0) (string (r .before)) (f .1)
+    let t = broken c .before in
+    let i = first t in
+    let f = fails-of _ _ (sym (broken c .parse-run .ensures) ∙ c .before .enum-told2 .given .1) in
+    c .nothing2 .ensures ∙ string-fails _ _ _ _ _ (i .idchars-end .ensures) (start i .pre .1 .0) (string t) (f .1)
 
 returns-5 : tie.Need-returns-5
 returns-5 c =
     let k = c .before in
-    let told = stopped k .before in
-    let i = idchars (marked (closed told)) in
+    let i = first (told k) in
     let n = rest k in
-    more-step _ _ _ _ _ (i .idchars-end .ensures) (start i .pre .1 .0) (string told) (n .0) (n .1) (omega (arith, n .2)) (n .2)
+    more-step _ _ _ _ _ (i .idchars-end .ensures) (start i .pre .1 .0) (string (told k)) (n .0) (n .1) (omega (arith, n .2)) (n .2)
 
 pub parse-reserved-spec : {M : Type 1} → statement M
 parse-reserved-spec =

@@ -22,8 +22,8 @@ abbrev μ-loop : tie.MeasureT-loop
 
 -- the places: the function's start; where the idchars end; where a quotation mark follows; and where the string was read, if it is closed
 -- and if it fails
-abbrev start : tie.At-loop Inv-loop μ-loop → tie.Start Inv-loop μ-loop
-start c = c .before .before
+abbrev start : tie.After-idchars-end Inv-loop μ-loop → tie.Start Inv-loop μ-loop
+start c = c .before .before .before
 
 abbrev idchars : tie.Else1 Inv-loop μ-loop → tie.After-idchars-end Inv-loop μ-loop
 idchars c = c .before .before
@@ -39,33 +39,33 @@ failed c = c .before .before .before
 
 -- the idchars are passed
 module _ (c : tie.After-idchars-end Inv-loop μ-loop) where
-  words : let a = start (c .before) .args in Ran (a .settings) (a .s .now) (c .before .loop .i) (c .idchars-end .result)
+  words : let a = start c .args in Ran (a .settings) (a .s .now) (c .before .loop .i) (c .idchars-end .result)
   words = ran-idchars (c .idchars-end .ensures) (c .before .loop .inv .formed)
 
-  passed : let a = start (c .before) .args in Ran (a .settings) (a .s .now) (a .at) (c .idchars-end .result)
+  passed : let a = start c .args in Ran (a .settings) (a .s .now) (a .at) (c .idchars-end .result)
   passed = ran-more (c .before .loop .inv) words
 
 -- and a quotation mark stands behind them
 module _ (c : tie.Else1 Inv-loop μ-loop) where
-  quote : next (byte "\"") (drop (idchars c .idchars-end .result) (start (idchars c .before) .args .s .now)) ≡ true
+  quote : next (byte "\"") (drop (idchars c .idchars-end .result) (start (idchars c) .args .s .now)) ≡ true
   quote = sym (c .before .is-at .ensures) ∙ not-false _ (c .if1 .left)
 
-  follows : idchars c .idchars-end .result + 1 ≤ length (start (idchars c .before) .args .s .now)
+  follows : idchars c .idchars-end .result + 1 ≤ length (start (idchars c) .args .s .now)
   follows = string-follows _ _ quote
 
 -- and a whole string
 string :
-    (c : tie.After-known-told Inv-loop μ-loop) → let i = idchars (marked (closed c)) in let a = start (i .before) .args in
+    (c : tie.After-known-told Inv-loop μ-loop) → let i = idchars (marked (closed c)) in let a = start i .args in
     Quoted (a .settings) (a .s .now) (i .idchars-end .result) (c .before .end .given .0 .0)
 string c =
     let m = marked (closed c) in
     parsed-closed _ _ (quote m) _ (closed c .parse-str .ensures) (words (idchars m) .formed) (c .before .end .given .1)
 
 loop-holds : tie.Need-loop-holds Inv-loop μ-loop
-loop-holds c = ran-none _ (c .before .pre .0) (c .before .pre .1 .0)
+loop-holds c = let p = c .before .pre in ran-none _ (p .0) (p .1 .0)
 
 idchars-end-requires : tie.Need-idchars-end-requires Inv-loop μ-loop
-idchars-end-requires c κs = (c .loop .inv .within, start c .pre .1 .1)
+idchars-end-requires c κs = (c .loop .inv .within, c .before .before .pre .1 .1)
 
 is-at-requires : tie.Need-is-at-requires Inv-loop μ-loop
 is-at-requires c κs = search needs

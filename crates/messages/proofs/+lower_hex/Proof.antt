@@ -24,114 +24,72 @@ abbrev lower-hex-below : ℕ → In 1 lower-hex-kinds.ps
 lower-hex-below t =
     and 1 lower-hex-kinds.ps (falls 1 lower-hex-kinds.ps _<_ μ-lower-hex t) lower-hex.Pre
 
-lower-hex-hex-digit-requires : (t : ℕ) → lower-hex-lts.Need-hex-digit-requires (
-  hex-digit-reads.Asked,
-  hex-digit-reads.Learnt,
-  lower-hex-below t,
-  lower-hex.Post,
-) (lower-hex-at t) lower-hex.Post
-lower-hex-hex-digit-requires t c κs = omega arith
+-- for numbers of the measure t
+module _ (t : ℕ) where
+  -- what is known of the two functions that it calls
+  abbrev claims : lower-hex-lts.Claims
+  claims = (hex-digit-reads.Asked, hex-digit-reads.Learnt, lower-hex-below t, lower-hex.Post)
 
-lower-hex-slice-write-out : (t : ℕ) → lower-hex-lts.Need-slice-write-out (
-  hex-digit-reads.Asked,
-  hex-digit-reads.Learnt,
-  lower-hex-below t,
-  lower-hex.Post,
-) (lower-hex-at t) lower-hex.Post
-lower-hex-slice-write-out t c = omega arith
+  -- the places: the function's start, from where it has one digit; where the higher digits are written; and the start from there
+  abbrev start-one : lower-hex-lts.After-hex-digit claims (lower-hex-at t) lower-hex.Post
+      → lower-hex-lts.Start claims (lower-hex-at t) lower-hex.Post
+  start-one c = c .before .before .before
 
-lower-hex-add-result : (t : ℕ) → lower-hex-lts.Need-add-result (
-  hex-digit-reads.Asked,
-  hex-digit-reads.Learnt,
-  lower-hex-below t,
-  lower-hex.Post,
-) (lower-hex-at t) lower-hex.Post
-lower-hex-add-result t c = omega arith
+  abbrev higher : lower-hex-lts.After-hex-digit2 claims (lower-hex-at t) lower-hex.Post
+      → lower-hex-lts.After-lower-hex claims (lower-hex-at t) lower-hex.Post
+  higher c = c .before .before .before
 
-lower-hex-same-length : (t : ℕ) → lower-hex-lts.Need-same-length (
-  hex-digit-reads.Asked,
-  hex-digit-reads.Learnt,
-  lower-hex-below t,
-  lower-hex.Post,
-) (lower-hex-at t) lower-hex.Post
-lower-hex-same-length t c = let a = c .before .before .before .args in length-set (a .out .now) (a .at) (c .hex-digit .result)
+  abbrev start : lower-hex-lts.After-lower-hex claims (lower-hex-at t) lower-hex.Post
+      → lower-hex-lts.Start claims (lower-hex-at t) lower-hex.Post
+  start c = c .before .before .before .before
 
-lower-hex-returns : (t : ℕ) → lower-hex-lts.Need-returns (
-  hex-digit-reads.Asked,
-  hex-digit-reads.Learnt,
-  lower-hex-below t,
-  lower-hex.Post,
-) (lower-hex-at t) lower-hex.Post
-lower-hex-returns t c = let a = c .before .before .before .args in
-    put-digit (a .out .now) (a .at) (a .n) (c .hex-digit .result) (omega arith) (c .hex-digit .ensures) (omega arith)
+  lower-hex-hex-digit-requires : lower-hex-lts.Need-hex-digit-requires claims (lower-hex-at t) lower-hex.Post
+  lower-hex-hex-digit-requires c κs = omega arith
 
-lower-hex-lower-hex-requires : (t : ℕ) → lower-hex-lts.Need-lower-hex-requires (
-  hex-digit-reads.Asked,
-  hex-digit-reads.Learnt,
-  lower-hex-below t,
-  lower-hex.Post,
-) (lower-hex-at t) lower-hex.Post
-lower-hex-lower-hex-requires t c κs = (omega arith, omega arith)
+  lower-hex-slice-write-out : lower-hex-lts.Need-slice-write-out claims (lower-hex-at t) lower-hex.Post
+  lower-hex-slice-write-out c = omega arith
 
-lower-hex-hex-digit-requires-2 : (t : ℕ) → lower-hex-lts.Need-hex-digit-requires-2 (
-  hex-digit-reads.Asked,
-  hex-digit-reads.Learnt,
-  lower-hex-below t,
-  lower-hex.Post,
-) (lower-hex-at t) lower-hex.Post
-lower-hex-hex-digit-requires-2 t c κs = omega arith
+  lower-hex-add-result : lower-hex-lts.Need-add-result claims (lower-hex-at t) lower-hex.Post
+  lower-hex-add-result c = omega arith
 
-lower-hex-slice-write-out-2 : (t : ℕ) → lower-hex-lts.Need-slice-write-out-2 (
-  hex-digit-reads.Asked,
-  hex-digit-reads.Learnt,
-  lower-hex-below t,
-  lower-hex.Post,
-) (lower-hex-at t) lower-hex.Post
-lower-hex-slice-write-out-2 t c =
-    let a = c .before .before .before .before .before .before .before .args in
-    let p = c .before .before .before .lower-hex .ensures in
-    omega (arith, p .ends, added-length p, hex-fits (a .n / 16) 6 (omega arith))
+  lower-hex-same-length : lower-hex-lts.Need-same-length claims (lower-hex-at t) lower-hex.Post
+  lower-hex-same-length c = let a = start-one c .args in length-set (a .out .now) (a .at) (c .hex-digit .result)
 
-lower-hex-add-result-2 : (t : ℕ) → lower-hex-lts.Need-add-result-2 (
-  hex-digit-reads.Asked,
-  hex-digit-reads.Learnt,
-  lower-hex-below t,
-  lower-hex.Post,
-) (lower-hex-at t) lower-hex.Post
-lower-hex-add-result-2 t c =
-    let a = c .before .before .before .before .before .before .before .args in
-    let p = c .before .before .before .lower-hex .ensures in
-    omega (arith, p .ends, hex-fits (a .n / 16) 6 (omega arith))
+  lower-hex-returns : lower-hex-lts.Need-returns claims (lower-hex-at t) lower-hex.Post
+  lower-hex-returns c = let a = start-one c .args in
+      put-digit (a .out .now) (a .at) (a .n) (c .hex-digit .result) (omega arith) (c .hex-digit .ensures) (omega arith)
 
-lower-hex-same-length-2 : (t : ℕ) → lower-hex-lts.Need-same-length-2 (
-  hex-digit-reads.Asked,
-  hex-digit-reads.Learnt,
-  lower-hex-below t,
-  lower-hex.Post,
-) (lower-hex-at t) lower-hex.Post
-lower-hex-same-length-2 t c =
-    let k = c .before .before .before .lower-hex in
-    length-set (k .last .0) (k .result) (c .hex-digit2 .result) ∙ added-length (k .ensures)
+  lower-hex-lower-hex-requires : lower-hex-lts.Need-lower-hex-requires claims (lower-hex-at t) lower-hex.Post
+  lower-hex-lower-hex-requires c κs = (omega arith, omega arith)
 
-lower-hex-returns-2 : (t : ℕ) → lower-hex-lts.Need-returns-2 (
-  hex-digit-reads.Asked,
-  hex-digit-reads.Learnt,
-  lower-hex-below t,
-  lower-hex.Post,
-) (lower-hex-at t) lower-hex.Post
-lower-hex-returns-2 t c =
-    let a = c .before .before .before .before .before .before .before .args in
-    let k = c .before .before .before .lower-hex in
-    put-digits (a .n) (c .hex-digit2 .result) (omega arith) (c .hex-digit2 .ensures) (lower-hex-slice-write-out-2 t c) (k .ensures)
+  lower-hex-hex-digit-requires-2 : lower-hex-lts.Need-hex-digit-requires-2 claims (lower-hex-at t) lower-hex.Post
+  lower-hex-hex-digit-requires-2 c κs = omega arith
+
+  lower-hex-slice-write-out-2 : lower-hex-lts.Need-slice-write-out-2 claims (lower-hex-at t) lower-hex.Post
+  lower-hex-slice-write-out-2 c =
+      let a = start (higher c) .args in
+      let p = higher c .lower-hex .ensures in
+      omega (arith, p .ends, added-length p, hex-fits (a .n / 16) 6 (omega arith))
+
+  lower-hex-add-result-2 : lower-hex-lts.Need-add-result-2 claims (lower-hex-at t) lower-hex.Post
+  lower-hex-add-result-2 c =
+      let a = start (higher c) .args in
+      let p = higher c .lower-hex .ensures in
+      omega (arith, p .ends, hex-fits (a .n / 16) 6 (omega arith))
+
+  lower-hex-same-length-2 : lower-hex-lts.Need-same-length-2 claims (lower-hex-at t) lower-hex.Post
+  lower-hex-same-length-2 c =
+      let k = higher c .lower-hex in
+      length-set (k .last .0) (k .result) (c .hex-digit2 .result) ∙ added-length (k .ensures)
+
+  lower-hex-returns-2 : lower-hex-lts.Need-returns-2 claims (lower-hex-at t) lower-hex.Post
+  lower-hex-returns-2 c =
+      let a = start (higher c) .args in
+      let k = higher c .lower-hex in
+      put-digits (a .n) (c .hex-digit2 .result) (omega arith) (c .hex-digit2 .ensures) (lower-hex-slice-write-out-2 c) (k .ensures)
 
 pub +lower-hex-spec : {M : Type 1} → statement M
-+lower-hex-spec = close μ-lower-hex λ t. lower-hex-lts.spec (
-  hex-digit-reads.Asked,
-  hex-digit-reads.Learnt,
-  lower-hex-below t,
-  lower-hex.Post,
-)
-    (lower-hex-at t)
++lower-hex-spec = close μ-lower-hex λ t. lower-hex-lts.spec (claims t) (lower-hex-at t)
     lower-hex.Post
     (lower-hex-hex-digit-requires t)
     (lower-hex-slice-write-out t)

@@ -8,6 +8,19 @@ use Rattle.messages.proofs.AnswerLaws.{rest-character, rest-confusing, 
 use Rattle.messages.proofs.rest.Statement.{statement}
 use Rattle.messages.proofs.rest.Tie as tie
 
+-- the places where the two characters, the number and the one character are written; and where there is known to be one
+abbrev two : tie.After-slice-known2 → tie.After-expected
+two c = c .before .before
+
+abbrev number : tie.After-slice-known3 → tie.After-lower-hex
+number c = c .before .before
+
+abbrev one : tie.After-slice-known4 → tie.After-quoted
+one c = c .before .before
+
+abbrev arm : tie.After-quoted → tie.At-match-came
+arm c = c .before .before
+
 expected-requires : tie.Need-expected-requires
 expected-requires c κs = omega arith
 
@@ -18,49 +31,37 @@ quoted-requires : tie.Need-quoted-requires
 quoted-requires c κs = omega arith
 
 same-length : tie.Need-same-length
-same-length c = added-length (c .before .before .expected .ensures)
+same-length c = added-length (two c .expected .ensures)
 
 returns : tie.Need-returns
-returns c =
-    let called = c .before .before in
-    let a = called .before .before .before .before .args in
-    added-same (sym (rest-expected (a .number) (a .first) (a .second) (omega arith))) (called .expected .ensures)
+returns c = added-same (sym (rest-expected _ _ _ (omega arith))) (two c .expected .ensures)
 
 same-length-2 : tie.Need-same-length-2
-same-length-2 c = added-length (c .before .before .lower-hex .ensures)
+same-length-2 c = added-length (number c .lower-hex .ensures)
 
 returns-2 : tie.Need-returns-2
-returns-2 c =
-    let called = c .before .before in
-    let a = called .before .before .before .before .args in
-    added-same (sym (rest-hex (a .number) (a .first) (a .second) (omega arith))) (called .lower-hex .ensures)
+returns-2 c = added-same (sym (rest-hex _ _ _ (omega arith))) (number c .lower-hex .ensures)
 
 returns-3 : tie.Need-returns-3
 returns-3 c =
-    let a = c .before .before .before .args in
-    let out = between-under 11 14 (a .number) (omega arith) in
-    nothing-written (no-rest (a .number) (a .first) (a .second) out (omega arith) (omega arith) (omega arith)) (omega arith)
+    nothing-written (no-rest _ _ _ (between-under 11 14 _ (omega arith)) (omega arith) (omega arith) (omega arith)) (omega arith)
 
 returns-4 : tie.Need-returns-4
 returns-4 c =
-    let a = c .before .before .before .before .args in
-    let out = between-over 11 14 (a .number) (omega arith) in
-    nothing-written (no-rest (a .number) (a .first) (a .second) out (omega arith) (omega arith) (omega arith)) (omega arith)
+    nothing-written (no-rest _ _ _ (between-over 11 14 _ (omega arith)) (omega arith) (omega arith) (omega arith)) (omega arith)
 
 same-length-3 : tie.Need-same-length-3
-same-length-3 c = added-length (c .before .before .quoted .ensures)
+same-length-3 c = added-length (one c .quoted .ensures)
 
 returns-5 : tie.Need-returns-5
 returns-5 c =
-    let called = c .before .before in
-    let arm = called .before .before in
-    let a = arm .before .before .args in
-    let one =
+    let a = arm (one c) .before .before .args in
+    let says =
     ⊎-elim
     (λ k. rest-confusing (a .number) (a .first) (a .second) (k .keys1))
     (λ k. rest-character (a .number) (a .first) (a .second) (omega (arith, k .1 .left)) (omega (arith, k .2 .taken)))
-    (arm .match .came) in
-    added-same (sym one) (called .quoted .ensures)
+    (arm (one c) .match .came) in
+    added-same (sym says) (one c .quoted .ensures)
 
 pub rest-spec : {M : Type 1} → statement M
 rest-spec =

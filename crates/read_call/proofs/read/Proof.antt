@@ -6,6 +6,17 @@ use borrow.Author.Needs.{needs}
 use Rattle.read_call.proofs.read.Statement.{statement}
 use Rattle.read_call.proofs.read.Tie as tie
 
+-- the places: the function's start, where the text itself is read; and, where no reader has the number, where the token is asked for, if it
+-- is there and if it is refused
+abbrev start : tie.After-src → tie.Start
+start c = c .before .before .before .before
+
+abbrev present : tie.After-enum-told → tie.After-present
+present c = c .before .before
+
+abbrev refused : tie.After-known-told → tie.After-present
+refused c = c .before .before .before
+
 src-requires : tie.Need-src-requires
 src-requires c κs = search needs
 
@@ -43,7 +54,7 @@ enum-known-refusal : tie.Need-enum-known-refusal
 enum-known-refusal c = search needs
 
 returns : tie.Need-returns
-returns c = by-number 0 (omega arith) refl (src-any (c .before .before .before .before .args .buffer .now) (c .src .ensures))
+returns c = by-number 0 (omega arith) refl (src-any (start c .args .buffer .now) (c .src .ensures))
 
 same-length : tie.Need-same-length
 same-length c = search needs
@@ -94,12 +105,10 @@ returns-9 : tie.Need-returns-9
 returns-9 c = by-number 8 (omega arith) refl (c .before .before .part4 .ensures)
 
 returns-10 : tie.Need-returns-10
-returns-10 c = by-nobody (c .before .before .before .match .rest) (c .before .before .present .ensures) (c .enum-told .given .1)
+returns-10 c = let p = present c in by-nobody (p .before .match .rest) (p .present .ensures) (c .enum-told .given .1)
 
 returns-11 : tie.Need-returns-11
-returns-11 c =
-    by-nobody-missing (c .before .before .before .before .match .rest) (c .before .before .before .present .ensures)
-    (c .before .refusal .given .1)
+returns-11 c = let p = refused c in by-nobody-missing (p .before .match .rest) (p .present .ensures) (c .before .refusal .given .1)
 
 pub read-spec : {M : Type 1} → statement M
 read-spec =

@@ -4,19 +4,42 @@ use native.Mathlib.Omega.{arith}
 use borrow.Author.Needs.{needs}
 use Rattle.wat.specs.declared.TokenKind.the-variants.{Float}
 use Rattle.wat_values.specs.Reading.{There}
+use Rattle.read_token.specs.declared.NumberKind.{NumberKind}
 use Rattle.read_token.specs.Here.{HereNumber}
 use Rattle.read_token.proofs.PresentLaws.{there-fits, there-slice}
 use Rattle.read_float.proofs.ReadLaws.{part-read, float-denied, integer-denied}
 use Rattle.read_float.proofs.part.Statement.{statement}
 use Rattle.read_float.proofs.part.Tie as tie
 
+-- the places: the function's start; and where the number is asked for, if it is refused, if it is an integer and if it is a float
+abbrev start : tie.After-number-kind → tie.Start
+start c = c .before .before .before
+
+abbrev refused : tie.After-known-told → tie.After-number-kind
+refused c = c .before .before .before
+
+abbrev integer : tie.After-enum-told → tie.After-number-kind
+integer c = c .before .before
+
+abbrev float : tie.After-known-told2 → tie.After-number-kind
+float c = c .before .before .before
+
+-- where the part is asked for, and handed over
+abbrev asked : tie.After-float-arg → tie.After-known-told2
+asked c = c .before .before
+
+abbrev handed : tie.After-slice-known2 → tie.After-float
+handed c = c .before .before
+
+-- what is answered of the token is so
+here : (c : tie.After-number-kind) {k : NumberKind} → c .number-kind .result ≡ k
+    → let a = start c .args in HereNumber (a .text .now) (a .token) k
+here c e = let a = start c .args in subst (HereNumber (a .text .now) (a .token)) e (c .number-kind .ensures)
+
 -- the token is there, and a float
-here : (c : tie.After-known-told2)
-    → let a = c .before .before .before .before .before .before .args in
+is-float : (c : tie.After-known-told2) → let a = start (float c) .args in
     There (a .text .now) (a .token) × (a .token .kind ≡ Float (c .before .kind .given .0 .0))
-here c =
-    let a = c .before .before .before .before .before .before .args in
-    subst (HereNumber (a .text .now) (a .token)) (c .before .kind .given .1) (c .before .before .before .number-kind .ensures)
+is-float c = here (float c) (c .before .kind .given .1)
 
 number-kind-requires : tie.Need-number-kind-requires
 number-kind-requires c κs = tt
@@ -34,28 +57,23 @@ cast-end : tie.Need-cast-end
 cast-end c = search needs
 
 add-end : tie.Need-add-end
-add-end c = let w = there-fits (here (c .before) .0) in omega arith
+add-end c = omega (arith, there-fits (is-float (c .before) .0))
 
 float-requires : tie.Need-float-requires
-float-requires c κs = let h = here (c .before .before) in
+float-requires c κs = let h = is-float (asked c) in
     record { order = omega arith; fits = there-fits (h .0); is = there-slice (h .0) (h .1) }
 
 returns : tie.Need-returns
-returns c =
-    let a = c .before .before .before .before .before .before .args in
-    float-denied (subst (HereNumber (a .text .now) (a .token)) (c .before .refusal .given .1)
-    (c .before .before .before .number-kind .ensures))
+returns c = float-denied (here (refused c) (c .before .refusal .given .1))
 
 returns-2 : tie.Need-returns-2
-returns-2 c =
-    let a = c .before .before .before .before .before .args in
-    integer-denied (subst (HereNumber (a .text .now) (a .token)) (c .enum-told .given .1) (c .before .before .number-kind .ensures))
+returns-2 c = integer-denied (here (integer c) (c .enum-told .given .1))
 
 same-length : tie.Need-same-length
 same-length c = search needs
 
 returns-3 : tie.Need-returns-3
-returns-3 c = let h = here (c .before .before .before .before .before) in part-read (h .0) (h .1) (c .before .before .float .ensures)
+returns-3 c = let h = is-float (asked (handed c .before)) in part-read (h .0) (h .1) (handed c .float .ensures)
 
 pub part-spec : {M : Type 1} → statement M
 part-spec =

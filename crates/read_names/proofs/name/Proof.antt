@@ -8,25 +8,65 @@ use borrow.Author.Needs.{needs}
 use Rattle.read_names.proofs.name.Statement.{statement}
 use Rattle.read_names.proofs.name.Tie as tie
 
+-- the places: the function's start; and where the name is known to have a byte
+abbrev start : tie.After-slice-known → tie.Start
+start c = c .before .before
+
+abbrev some : tie.After-shared-slice-known2 → tie.Else1
+some c = c .before
+
+abbrev begun : tie.Else1 → tie.Start
+begun c = start (c .before)
+
+-- where its string is read, from where the answer is told: a part of the text, a copy, a refusal, nothing
+abbrev read : tie.After-slice-known2 → tie.After-quoted
+read c = c .before .before
+
+abbrev text : tie.After-start → tie.After-quoted
+text c = read (c .before .before)
+
+abbrev copy : tie.After-n → tie.After-quoted
+copy c = read (c .before .before)
+
+abbrev refused : tie.After-refusal → tie.After-quoted
+refused c = read (c .before .before)
+
+abbrev absent : tie.After-enum-told2 → tie.After-quoted
+absent c = read (c .before .before)
+
+-- where the copy is told, from its part of the buffer and from the check of it; and that check, from both of its answers
+abbrev told : tie.After-buffer2 → tie.After-n
+told c = c .before .before
+
+abbrev checked : tie.After-check → tie.After-n
+checked c = told (c .before .before)
+
+abbrev right : tie.After-enum-told → tie.After-check
+right c = c .before .before
+
+abbrev wrong : tie.After-valid-up-to → tie.After-check
+wrong c = c .before .before
+
 add-at : tie.Need-add-at
 add-at c = search needs
 
 sub-rest : tie.Need-sub-rest
-sub-rest c = name-some (c .before .before .pre)
+sub-rest c = name-some (start c .pre)
 
 returns : tie.Need-returns
-returns c = name-empty (c .before .before .before .pre) _ (c .if1 .taken)
+returns c = name-empty (start (c .before) .pre) _ (c .if1 .taken)
 
 shared-slice-read-if2 : tie.Need-shared-slice-read-if2
-shared-slice-read-if2 c = name-within (c .before .before .before .before .pre) (c .before .if1 .left)
+shared-slice-read-if2 c = name-within (begun (some c) .pre) (some c .if1 .left)
 
 returns-2 : tie.Need-returns-2
-returns-2 c = name-word (c .before .before .before .before .before .pre) (c .before .before .if1 .left) _ (c .if2 .taken)
+returns-2 c = let k = some (c .before) in name-word (begun k .pre) (k .if1 .left) _ (c .if2 .taken)
 
 quoted-requires : tie.Need-quoted-requires
 quoted-requires c κs =
-    let k = c .before .before .before in
-    name-quoted (k .before .before .before .pre) (k .if1 .left) (c .before .if2 .left)
+    let quote = c .before in
+    let k = some (quote .before) in
+    name-quoted (begun k .pre) (k .if1 .left) (quote .if2 .left)
 
 enum-known-start : tie.Need-enum-known-start
 enum-known-start c = search needs
@@ -35,8 +75,7 @@ same-length : tie.Need-same-length
 same-length c = search needs
 
 returns-3 : tie.Need-returns-3
-returns-3 c =
-    names-empty _ _ (c .before .before .before .before .before .before .quoted .ensures) (c .before .before .start .given .1) (omega arith)
+returns-3 c = let k = c .before .before in names-empty _ _ (text k .quoted .ensures) (k .start .given .1) (omega arith)
 
 enum-known-n : tie.Need-enum-known-n
 enum-known-n c = search needs
@@ -48,7 +87,7 @@ part-copy-start : tie.Need-part-copy-start
 part-copy-start c = search needs
 
 part-copy-end : tie.Need-part-copy-end
-part-copy-end c = names-room (c .before .before .before .before .before .before .quoted .ensures) (c .before .before .n .given .1)
+part-copy-end c = let k = told c in names-room (copy k .quoted .ensures) (k .n .given .1)
 
 check-requires : tie.Need-check-requires
 check-requires c κs = search needs
@@ -69,38 +108,38 @@ same-length-2 : tie.Need-same-length-2
 same-length-2 c = search needs
 
 returns-4 : tie.Need-returns-4
-returns-4 c =
-    names-text _ _ (c .before .before .before .before .before .before .quoted .ensures) (c .before .before .start .given .1) (c .if3 .left)
+returns-4 c = let k = c .before .before in names-text _ _ (text k .quoted .ensures) (k .start .given .1) (c .if3 .left)
 
 same-length-3 : tie.Need-same-length-3
 same-length-3 c = search needs
 
 returns-5 : tie.Need-returns-5
 returns-5 c =
-    let k = c .before .before .before .before .before .before in
-    let q = k .before .before .before .before .quoted .ensures in
-    names-copied _ _ q (k .n .given .1) (subst (Says _) (c .enum-told .given .1) (c .before .before .check .ensures))
+    let k = checked (right c) in
+    let says = subst (Says _) (c .enum-told .given .1) (right c .check .ensures) in
+    names-copied _ _ (copy k .quoted .ensures) (k .n .given .1) says
 
 same-length-4 : tie.Need-same-length-4
 same-length-4 c = search needs
 
 returns-6 : tie.Need-returns-6
 returns-6 c =
-    let k = c .before .before .before .before .before .before .before in
-    let q = k .before .before .before .before .quoted .ensures in
-    names-wrong _ _ q (k .n .given .1) (subst (Says _) (c .before .valid-up-to .given .1) (c .before .before .before .check .ensures))
+    let bad = c .before in
+    let k = checked (wrong bad) in
+    let says = subst (Says _) (bad .valid-up-to .given .1) (wrong bad .check .ensures) in
+    names-wrong _ _ (copy k .quoted .ensures) (k .n .given .1) says
 
 same-length-5 : tie.Need-same-length-5
 same-length-5 c = search needs
 
 returns-7 : tie.Need-returns-7
-returns-7 c = names-short _ _ (c .before .before .before .before .before .quoted .ensures) (c .before .refusal .given .1)
+returns-7 c = let k = c .before in names-short _ _ (refused k .quoted .ensures) (k .refusal .given .1)
 
 same-length-6 : tie.Need-same-length-6
 same-length-6 c = search needs
 
 returns-8 : tie.Need-returns-8
-returns-8 c = names-absent _ _ (c .before .before .before .before .quoted .ensures) (c .enum-told2 .given .1)
+returns-8 c = names-absent _ _ (absent c .quoted .ensures) (c .enum-told2 .given .1)
 
 pub name-spec : {M : Type 1} → statement M
 name-spec =

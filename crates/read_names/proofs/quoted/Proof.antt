@@ -1,10 +1,29 @@
 -- The string is between its quotes, or is measured and copied. Assumes nothing.
+use mathlib.Core.Path.{_≡_}
+use mathlib.Core.Bool.{true}
 use native.Mathlib.Omega.{arith}
 use borrow.Author.Tests.{not-true, not-false}
 use Rattle.read_names.proofs.QuotedLaws.{quoted-long, quoted-whole, quoted-plain, quoted-short, quoted-copied}
 use borrow.Author.Needs.{needs}
 use Rattle.read_names.proofs.quoted.Statement.{statement}
 use Rattle.read_names.proofs.quoted.Tie as tie
+
+-- the places: the function's start; where an escape is looked for; and where a string that has one is measured and copied
+abbrev start : tie.After-has-escape → tie.Start
+start c = c .before .before .before
+
+abbrev escape : tie.After-decoded-len → tie.After-has-escape
+escape c = c .before .before
+
+abbrev measured : tie.After-decode-into-arg → tie.After-decoded-len
+measured c = c .before .before
+
+abbrev copied : tie.After-slice-known2 → tie.After-decode-into
+copied c = c .before .before
+
+-- it has one
+escaped : (c : tie.After-decoded-len) → escape c .has-escape .result ≡ true
+escaped c = not-false _ (c .before .if1 .left)
 
 add-has-escape : tie.Need-add-has-escape
 add-has-escape c = search needs
@@ -16,40 +35,40 @@ add-t9 : tie.Need-add-t9
 add-t9 c = search needs
 
 sub-t10 : tie.Need-sub-t10
-sub-t10 c = quoted-long (c .before .before .before .before .pre)
+sub-t10 c = quoted-long (start (c .before) .pre)
 
 returns : tie.Need-returns
-returns c = quoted-plain (c .before .before .before .before .pre) (c .before .has-escape .ensures) _ (not-true _ (c .if1 .taken))
+returns c = let k = c .before in quoted-plain (start k .pre) (k .has-escape .ensures) _ (not-true _ (c .if1 .taken))
 
 add-decoded-len : tie.Need-add-decoded-len
 add-decoded-len c = search needs
 
 decoded-len-requires : tie.Need-decoded-len-requires
-decoded-len-requires c κs = quoted-whole (c .before .before .before .before .pre)
+decoded-len-requires c κs = quoted-whole (start (c .before) .pre)
 
 returns-2 : tie.Need-returns-2
 returns-2 c =
-    let k = c .before .before .before in
-    let f = not-false _ (c .before .before .if1 .left) in
-    quoted-short (k .before .before .before .pre) (k .has-escape .ensures) _ f (c .before .decoded-len .ensures) (omega arith)
+    let m = c .before in
+    let k = escape m in
+    quoted-short (start k .pre) (k .has-escape .ensures) _ (escaped m) (m .decoded-len .ensures) (omega arith)
 
 add-decode-into : tie.Need-add-decode-into
 add-decode-into c = search needs
 
 decode-into-requires : tie.Need-decode-into-requires
 decode-into-requires c κs =
-    (quoted-whole (c .before .before .before .before .before .before .before .pre), omega (arith, c .before .before .decoded-len .ensures))
+    let m = measured c in
+    (quoted-whole (start (escape m) .pre), omega (arith, m .decoded-len .ensures))
 
 same-length : tie.Need-same-length
 same-length c = search needs
 
 returns-3 : tie.Need-returns-3
 returns-3 c =
-    let m = c .before .before .before .before .before in
-    let k = m .before .before in
-    let f = not-false _ (m .before .if1 .left) in
-    quoted-copied (k .before .before .before .pre) (k .has-escape .ensures) _ f (m .decoded-len .ensures) (omega arith)
-    (c .before .before .decode-into .ensures)
+    let m = measured (copied c .before) in
+    let k = escape m in
+    quoted-copied (start k .pre) (k .has-escape .ensures) _ (escaped m) (m .decoded-len .ensures) (omega arith)
+    (copied c .decode-into .ensures)
 
 pub quoted-spec : {M : Type 1} → statement M
 quoted-spec =

@@ -8,48 +8,58 @@ use Rattle.read_parts.proofs.PartLaws.{leaves-within, whole-passed, who
 use Rattle.read_parts.proofs.whole.Statement.{statement}
 use Rattle.read_parts.proofs.whole.Tie as tie
 
+-- the places: the function's start; where the prefix is passed, and the digits begin; where they end; and where they are handed over
+abbrev start : tie.After-past-prefix → tie.Start
+start c = c .before .before .before .before
+
+abbrev began : tie.After-end-of → tie.After-past-prefix
+began c = c .before .before
+
+abbrev ended : tie.After-hand → tie.After-end-of
+ended c = c .before .before
+
+abbrev handed : tie.After-slice-known2 → tie.After-hand
+handed c = c .before .before
+
 -- the digits end there
-ends : (c : tie.After-end-of)
-    → let a = c .before .before .before .before .before .before .args in
+ends : (c : tie.After-end-of) → let a = start (began c) .args in
     Leaves (a .hex) (a .text .now) (a .at) (a .end) (λ p f e. f ++ e) (c .end-of .result)
 ends c =
-    let s = c .before .before .before .before .before .before in
+    let s = start (began c) in
     λ sign u p f e x.
     c .end-of .ensures (s .args .text .now) _ _ _ (c .before .skip-underscores .ensures)
-    (whole-passed (s .pre) x (c .before .before .past-prefix .ensures sign u p f e x))
+    (whole-passed (s .pre) x (began c .past-prefix .ensures sign u p f e x))
 
 sign-at-requires : tie.Need-sign-at-requires
-sign-at-requires c κs = (c .before .before .pre .order, c .before .before .pre .fits)
+sign-at-requires c κs = let n = c .before .before .pre in (n .order, n .fits)
 
 past-prefix-requires : tie.Need-past-prefix-requires
 past-prefix-requires c κs = c .before .before .before .pre
 
 skip-underscores-requires : tie.Need-skip-underscores-requires
 skip-underscores-requires c κs =
-    let s = c .before .before .before .before in
-    (leaves-within (s .pre) (λ p f e. p ++ (f ++ e)) (c .past-prefix .ensures), s .pre .fits)
+    let n = start c .pre in
+    (leaves-within n (λ p f e. p ++ (f ++ e)) (c .past-prefix .ensures), n .fits)
 
 end-of-requires : tie.Need-end-of-requires
 end-of-requires c κs = tt
 
 hand-requires : tie.Need-hand-requires
 hand-requires c κs =
-    let s = c .before .before .before .before .before .before .before in
-    let began = c .before .before .before in
-    whole-fits (s .pre) (began .before .sign-at .ensures) (began .past-prefix .ensures) (ends (c .before))
+    let b = began (c .before) in
+    whole-fits (start b .pre) (b .before .sign-at .ensures) (b .past-prefix .ensures) (ends (c .before))
 
 same-length : tie.Need-same-length
 same-length c = search needs
 
 returns : tie.Need-returns
 returns c =
-    let handed = c .before .before in
-    let ended = handed .before .before in
-    let began = ended .before .before in
-    let s = began .before .before .before .before in
-    λ sign u p f e x d.
-    whole-handed (s .pre) x (began .before .sign-at .ensures) (began .past-prefix .ensures sign u p f e x) (ends ended sign u p f e x)
-    (handed .hand .ensures) (ap (λ (b : Bool). s .args .hex || b) d)
+    let d = ended (handed c) in
+    let b = began d in
+    let s = start b in
+    λ sign u p f e x g.
+    whole-handed (s .pre) x (b .before .sign-at .ensures) (b .past-prefix .ensures sign u p f e x) (ends d sign u p f e x)
+    (handed c .hand .ensures) (ap (λ (b : Bool). s .args .hex || b) g)
 
 pub whole-spec : {M : Type 1} → statement M
 whole-spec =

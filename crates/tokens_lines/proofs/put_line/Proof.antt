@@ -26,8 +26,11 @@ detail c = c .before .before
 abbrev words : tie.After-slice-known2 → tie.After-words-of
 words c = name c .before .before
 
+abbrev begun : tie.After-words-of → tie.Start
+begun c = c .before .before
+
 abbrev start : tie.After-slice-known2 → tie.Start
-start c = words c .before .before
+start c = begun (words c)
 
 abbrev named : tie.After-slice-known3 → tie.After-slice-known2
 named c = offset c .before .before
@@ -37,6 +40,13 @@ placed c = len c .before .before
 
 abbrev measured : tie.After-slice-known5 → tie.After-slice-known4
 measured c = detail c .before .before
+
+-- where the line is ended, and from there where its last part was written
+abbrev ended : tie.After-slice-known6 → tie.After-append
+ended c = c .before .before
+
+abbrev detailed : tie.After-append-arg2 → tie.After-slice-known5
+detailed c = c .before .before
 
 -- where each part ends at most
 name-ends : (c : tie.After-slice-known2) → name c .append-word .result ≤ start c .args .to + longestName
@@ -62,36 +72,35 @@ words-of-requires c κs = tt
 
 append-word-requires : tie.Need-append-word-requires
 append-word-requires c κs =
-    let p = c .before .words-of .ensures in
+    let w = c .before in
+    let p = w .words-of .ensures in
     let s = parted-short p in
-    (p .name .within, omega (arith, c .before .before .before .pre .0))
+    (p .name .within, omega (arith, begun w .pre .0))
 
 append-number-requires : tie.Need-append-number-requires
-append-number-requires c κs = omega (arith, name-ends (c .before), start (c .before) .pre .0)
+append-number-requires c κs = let n = c .before in omega (arith, name-ends n, start n .pre .0)
 
 append-number-requires-2 : tie.Need-append-number-requires-2
-append-number-requires-2 c κs = omega (arith, offset-ends (c .before), start (named (c .before)) .pre .0)
+append-number-requires-2 c κs = let o = c .before in omega (arith, offset-ends o, start (named o) .pre .0)
 
 append-detail-requires : tie.Need-append-detail-requires
 append-detail-requires c κs =
-    let n = named (placed (c .before)) in
-    ((start n .args .k, words n .words-of .ensures), omega (arith, len-ends (c .before), start n .pre .0))
+    let l = c .before in
+    let n = named (placed l) in
+    ((start n .args .k, words n .words-of .ensures), omega (arith, len-ends l, start n .pre .0))
 
 slice-aggregate-append : tie.Need-slice-aggregate-append
 slice-aggregate-append c = search needs
 
 append-requires : tie.Need-append-requires
-append-requires c κs =
-    let d = c .before .before in
-    omega (arith, detail-ends d, start (named (placed (measured d))) .pre .0)
+append-requires c κs = let d = detailed c in omega (arith, detail-ends d, start (named (placed (measured d))) .pre .0)
 
 same-length : tie.Need-same-length
 same-length c = search needs
 
 returns : tie.Need-returns
 returns c =
-    let end = c .before .before in
-    let d = end .before .before .before in
+    let d = detailed (ended c .before) in
     let l = measured d in
     let o = placed l in
     let n = named o in
@@ -101,7 +110,7 @@ returns c =
     (added-then (name n .append-word .ensures .0 _ (p .name))
     (added-then (offset o .append-number .ensures .0)
     (added-then (len l .append-number2 .ensures .0)
-    (added-then (detail d .append-detail .ensures (a .k) p) (end .append .ensures)))))
+    (added-then (detail d .append-detail .ensures (a .k) p) (ended c .append .ensures)))))
 
 pub put-line-spec : {M : Type 1} → statement M
 put-line-spec =

@@ -22,8 +22,11 @@ abbrev μ-loop : tie.MeasureT-loop
 μ-loop text out₀ from t end₀ at₀ count₀ out end at count = length text - at
 
 -- the places: the function's start, a turn of the loop, and where a token, a fault and the end are known
+abbrev begun : tie.After-table Inv-loop μ-loop → tie.Start Inv-loop μ-loop
+begun c = c .before .before .before
+
 abbrev start : tie.At-loop Inv-loop μ-loop → tie.Start Inv-loop μ-loop
-start c = c .before .before .before .before
+start c = begun (c .before)
 
 abbrev turn : tie.After-next Inv-loop μ-loop → tie.At-loop Inv-loop μ-loop
 turn c = c .before .before
@@ -47,6 +50,16 @@ error c = c .before .before
 abbrev end : tie.After-slice-known4 Inv-loop μ-loop → tie.After-put-end Inv-loop μ-loop
 end c = c .before .before
 
+-- and from there, and from the place of a fault, where it is known what is written
+abbrev token-told : tie.After-slice-known2 Inv-loop μ-loop → tie.After-known-told Inv-loop μ-loop
+token-told c = line c .before .before
+
+abbrev fault-told : tie.After-struct-known Inv-loop μ-loop → tie.After-known-told2 Inv-loop μ-loop
+fault-told c = c .before .before
+
+abbrev end-told : tie.After-slice-known4 Inv-loop μ-loop → tie.After-enum-told Inv-loop μ-loop
+end-told c = end c .before .before
+
 -- a line has room
 roomy : (c : tie.At-loop Inv-loop μ-loop) → c .loop .end + longestLine ≤ length (c .loop .out)
 roomy c = has-room (start c .pre .1) (c .loop .inv .0) (omega (arith, c .loop .inv .1, start c .pre .2))
@@ -67,41 +80,44 @@ table-requires : tie.Need-table-requires Inv-loop μ-loop
 table-requires c κs = tt
 
 loop-holds : tie.Need-loop-holds Inv-loop μ-loop
-loop-holds c = let b = c .before .before .before .pre in (reached-start (b .0) (b .3), refl)
+loop-holds c = let b = begun c .pre in (reached-start (b .0) (b .3), refl)
 
 next-requires : tie.Need-next-requires Inv-loop μ-loop
 next-requires c κs =
-    let s = c .before .loop .inv .0 .walked .stands in
-    (s .within, (s .between, c .before .before .table .ensures))
+    let l = c .before in
+    let s = l .loop .inv .0 .walked .stands in
+    (s .within, (s .between, l .before .table .ensures))
 
 enum-known-kind : tie.Need-enum-known-kind Inv-loop μ-loop
 enum-known-kind c = c .match .keys1
 
 put-line-requires : tie.Need-put-line-requires Inv-loop μ-loop
-put-line-requires c κs = let h = in-input (c .before) in (roomy (turn (token (c .before))), omega arith, omega arith)
+put-line-requires c κs =
+    let k = c .before in
+    let h = in-input k in
+    (roomy (turn (token k)), omega arith, omega arith)
 
 add-at : tie.Need-add-at Inv-loop μ-loop
-add-at c = omega (arith, in-input (line c .before .before))
+add-at c = omega (arith, in-input (token-told c))
 
 add-count : tie.Need-add-count Inv-loop μ-loop
 add-count c =
-    let k = line c .before .before in
+    let k = token-told c in
     let l = turn (token k) in
     omega (arith, few (start l .pre .1) (l .loop .inv .0), in-input k)
 
 loop-less : tie.Need-loop-less Inv-loop μ-loop
 loop-less c =
-    let k = line c .before .before in
+    let k = token-told c in
     let l = turn (token k) in
     let t = lexed k in
     omega (arith, token-size t .0, token-fits _ _ _ (l .loop .inv .0 .walked .stands) t refl)
 
 loop-again : tie.Need-loop-again Inv-loop μ-loop
 loop-again c =
-    let w = line c in
-    let k = w .before .before in
+    let k = token-told c in
     let l = turn (token k) in
-    let a = w .put-line .ensures in
+    let a = line c .put-line .ensures in
     (reached-more (start l .pre .1) (l .loop .inv .0) (lexed k) a, added-length a ∙ l .loop .inv .1)
 
 enum-known-fault : tie.Need-enum-known-fault Inv-loop μ-loop
@@ -109,22 +125,22 @@ enum-known-fault c = c .match .keys2
 
 add-put-error : tie.Need-add-put-error Inv-loop μ-loop
 add-put-error c =
-    let k = c .before .before in
+    let k = fault-told c in
     let n = fault k in
     let l = turn n in
     let f = fault-fits _ _ _ (l .loop .inv .0 .walked .stands) (n .next .ensures) (k .before .fault .given .1) in
     omega (arith, f .0, f .1, start l .pre .1)
 
 put-error-requires : tie.Need-put-error-requires Inv-loop μ-loop
-put-error-requires c κs = roomy (turn (fault (c .before .before)))
+put-error-requires c κs = roomy (turn (fault (fault-told c)))
 
 same-length : tie.Need-same-length Inv-loop μ-loop
-same-length c = added-length (error c .put-error .ensures) ∙ turn (fault (error c .before .before .before)) .loop .inv .1
+same-length c = added-length (error c .put-error .ensures) ∙ turn (fault (fault-told (error c .before))) .loop .inv .1
 
 returns : tie.Need-returns Inv-loop μ-loop
 returns c =
     let w = error c in
-    let k = w .before .before .before in
+    let k = fault-told (w .before) in
     let n = fault k in
     let l = turn n in
     let p = l .loop .inv .0 in
@@ -142,16 +158,15 @@ put-end-requires c κs =
     (roomy l, omega (arith, s, in-text s (l .loop .inv .0)))
 
 same-length-2 : tie.Need-same-length-2 Inv-loop μ-loop
-same-length-2 c = added-length (end c .put-end .ensures) ∙ turn (ended (end c .before .before)) .loop .inv .1
+same-length-2 c = added-length (end c .put-end .ensures) ∙ turn (ended (end-told c)) .loop .inv .1
 
 returns-2 : tie.Need-returns-2 Inv-loop μ-loop
 returns-2 c =
-    let w = end c in
-    let k = w .before .before in
+    let k = end-told c in
     let n = ended k in
     let l = turn n in
     let p = l .loop .inv .0 in
-    let a = w .put-end .ensures in
+    let a = end c .put-end .ensures in
     let e = answered _ _ _ (p .walked .stands) (n .next .ensures) (k .enum-told .given .1) in
     (output-end (start l .pre .1) p (start l .pre .0) e a, added-counts a)
 

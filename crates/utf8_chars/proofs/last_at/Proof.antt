@@ -10,16 +10,20 @@ use Rattle.utf8_chars.proofs.FollowLaws.{trail-cut, trail-out, trail-in
 use Rattle.utf8_chars.proofs.last_at.Statement.{statement}
 use Rattle.utf8_chars.proofs.last_at.Tie as tie
 
--- the places: the function's start, seen from where the third byte is tested; and where that byte fits, seen from where the fourth is
+-- the places: the function's start, seen from where the third byte is tested and from where it fits; and where it fits, seen from where
+-- the fourth is tested
 abbrev start : tie.After-within → tie.Start
 start c = c .before .before .before .before
+
+abbrev past : tie.Else2 → tie.Start
+past c = start (c .before)
 
 abbrev third : tie.After-within2 → tie.Else2
 third c = c .before .before .before .before
 
 -- past the third byte
 passed :
-    (c : tie.Else2) → let a = start (c .before) .args in
+    (c : tie.Else2) → let a = past c .args in
     follow 2 (trailing (a .n)) (drop (a .at + 2) (a .s .now)) ≡ follow 3 (trailing (a .n - 1)) (drop (a .at + 3) (a .s .now))
 passed c =
     let w = c .before in
@@ -52,7 +56,7 @@ returns-2 c =
 returns-3 : tie.Need-returns-3
 returns-3 c =
     let p = c .before in
-    let a = start (p .before) .args in
+    let a = past p .args in
     sym (passed p ∙ trail-end 3 (a .n - 1) (drop (a .at + 3) (a .s .now)) (omega arith))
 
 sub-if4 : tie.Need-sub-if4
@@ -61,7 +65,7 @@ sub-if4 c = omega arith
 returns-4 : tie.Need-returns-4
 returns-4 c =
     let p = c .before .before in
-    let a = start (p .before) .args in
+    let a = past p .args in
     sym (passed p ∙ trail-cut (a .s .now) (a .at + 3) 3 (a .n - 1) (omega arith) (omega arith))
 
 add-within-2 : tie.Need-add-within-2
@@ -77,7 +81,7 @@ returns-5 : tie.Need-returns-5
 returns-5 c =
     let w = c .before in
     let p = third w in
-    let a = start (p .before) .args in
+    let a = past p .args in
     let out = sym (w .within2 .ensures) ∙ not-true (w .within2 .result) (c .if5 .taken) in
     sym (passed p ∙ trail-out (a .s .now) (a .at + 3) 3 (a .n - 1) (omega arith) (omega arith) out)
 
@@ -85,7 +89,7 @@ returns-6 : tie.Need-returns-6
 returns-6 c =
     let w = c .before in
     let p = third w in
-    let a = start (p .before) .args in
+    let a = past p .args in
     let fits = sym (w .within2 .ensures) ∙ not-false (w .within2 .result) (c .if5 .left) in
     sym (passed p ∙ trail-in (a .s .now) (a .at + 3) 3 (a .n - 1) (omega arith) (a .at + 4) (omega arith) (omega arith) fits
     ∙ trail-end 4 (a .n - 1 - 1) (drop (a .at + 4) (a .s .now)) (omega arith))

@@ -28,13 +28,16 @@ round c = c .before .before
 abbrev other : tie.After-to-hex Inv-loop μ-loop → tie.Else1 Inv-loop μ-loop
 other c = c .before .before
 
+abbrev round-of : tie.After-to-hex Inv-loop μ-loop → tie.At-loop Inv-loop μ-loop
+round-of c = round (other c .before)
+
 -- the byte is a digit
 digit :
-    (c : tie.Else2 Inv-loop μ-loop) → let l = round (other (c .before) .before) in
-    hexOf (getD (start l .args .s .now) (l .loop .i) 0) ≡ some (c .before .to-hex .result)
+    (c : tie.Else2 Inv-loop μ-loop) → let h = c .before in let l = round-of h in
+    hexOf (getD (start l .args .s .now) (l .loop .i) 0) ≡ some (h .to-hex .result)
 digit c =
     let h = c .before in
-    let l = round (other h .before) in
+    let l = round-of h in
     digit-is (getD (start l .args .s .now) (l .loop .i) 0) _ _ (h .before .wide .ensures) (h .to-hex .ensures) (c .if2 .left)
 
 loop-holds : tie.Need-loop-holds Inv-loop μ-loop
@@ -71,9 +74,10 @@ close-requires c κs = search needs
 
 returns : tie.Need-returns Inv-loop μ-loop
 returns c =
-    let h = c .before .before in
-    let l = round (other h .before) .loop in
-    let e = digit-not _ _ _ (h .before .wide .ensures) (h .to-hex .ensures) (c .before .if2 .taken) in
+    let t = c .before in
+    let h = t .before in
+    let l = round-of h .loop in
+    let e = digit-not _ _ _ (h .before .wide .ensures) (h .to-hex .ensures) (t .if2 .taken) in
     run-stop _ _ _ (l .i) (l .value) (l .under) (l .inv) (omega arith) (other h .if1 .left) _ _ e (c .close .ensures .0)
     (c .close .ensures .1)
 
@@ -85,9 +89,10 @@ add-t19 c = omega arith
 
 returns-2 : tie.Need-returns-2 Inv-loop μ-loop
 returns-2 c =
-    let h = c .before .before in
-    let l = round (other h .before) .loop in
-    run-big _ _ _ (l .i) (l .value) (l .under) (l .inv) (omega arith) (other h .if1 .left) _ (digit (c .before)) _ (c .if3 .taken)
+    let d = c .before in
+    let h = d .before in
+    let l = round-of h .loop in
+    run-big _ _ _ (l .i) (l .value) (l .under) (l .inv) (omega arith) (other h .if1 .left) _ (digit d) _ (c .if3 .taken)
 
 mul-value : tie.Need-mul-value Inv-loop μ-loop
 mul-value c = omega arith
@@ -106,11 +111,12 @@ loop-less-2 c = omega arith
 
 loop-again-2 : tie.Need-loop-again-2 Inv-loop μ-loop
 loop-again-2 c =
-    let d = c .before .before in
+    let small = c .before in
+    let d = small .before in
     let h = d .before in
-    let l = round (other h .before) .loop in
+    let l = round-of h .loop in
     run-digit _ _ _ (l .i) (l .value) (l .under) (l .inv) (omega arith) (other h .if1 .left) _ (digit d) (c .wide2 .result)
-    (c .wide2 .ensures) (c .before .if3 .left)
+    (c .wide2 .ensures) (small .if3 .left)
 
 sub-close-2 : tie.Need-sub-close-2 Inv-loop μ-loop
 sub-close-2 c = omega arith

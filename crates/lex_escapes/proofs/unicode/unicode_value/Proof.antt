@@ -74,10 +74,11 @@ close-brace-requires c κs =
 
 returns : tie.Need-returns
 returns c =
-    let s = c .before .before in
+    let t = c .before in
+    let s = t .before in
     let a = start (read (told s)) .args in
     let k = long (told s) in
-    let scalar = sym (s .is-scalar .ensures) ∙ c .before .if1 .taken in
+    let scalar = sym (s .is-scalar .ensures) ∙ t .if1 .taken in
     let e = number-scalar (a .s .now) (a .at + 3) (a .at + (3 + k)) _ k _ (number (told s) .0 .is) (omega arith) scalar in
     says-same (a .s .now) (a .at) (c .close-brace .result) e (c .close-brace .ensures)
 

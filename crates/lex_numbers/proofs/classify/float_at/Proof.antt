@@ -12,7 +12,7 @@ use Rattle.lex_numbers.proofs.KindLaws.{found, found-bad, found-within,
 use Rattle.lex_numbers.proofs.classify.float_at.Statement.{statement}
 use Rattle.lex_numbers.proofs.classify.float_at.Tie as tie
 
--- the places: the function's start, and where the fraction and the exponent are passed
+-- the places: the function's start, and where the fraction and the exponent are asked for, and the fraction is told
 abbrev start : tie.After-fraction-at → tie.Start
 start c = c .before .before
 
@@ -21,6 +21,9 @@ at-fraction c = c .before .before .before
 
 abbrev at-exponent : tie.After-known-told2 → tie.After-exponent-at
 at-exponent c = c .before .before .before
+
+abbrev fraction-told : tie.After-known-told2 → tie.After-known-told
+fraction-told c = at-exponent c .before
 
 -- the bytes up to the end, from a place on
 abbrev bytes : tie.After-fraction-at → ℕ → List ℕ
@@ -32,7 +35,7 @@ past-fraction :
 past-fraction c = found (at-fraction c .fraction-at .ensures) (c .before .f .given .1)
 
 past-exponent :
-    (c : tie.After-known-told2) → let k = at-exponent c .before in let f = at-fraction k in let v = c .before .e .given .0 in
+    (c : tie.After-known-told2) → let k = fraction-told c in let f = at-fraction k in let v = c .before .e .given .0 in
     exponent (start f .args .hex) (bytes f (k .before .f .given .0 .1 .0)) ≡ past (v .0) (bytes f (v .1 .0))
 past-exponent c = found (at-exponent c .exponent-at .ensures) (c .before .e .given .1)
 
@@ -58,9 +61,10 @@ enum-known-e c = search needs
 
 returns : tie.Need-returns
 returns c =
-    let k = at-exponent (c .before) .before in
+    let t = c .before in
+    let k = fraction-told t in
     let a = start (at-fraction k) .args in
-    normal-here (a .hex) (a .seen) (bytes (at-fraction k) (a .at)) (past-fraction k) (past-exponent (c .before))
+    normal-here (a .hex) (a .seen) (bytes (at-fraction k) (a .at)) (past-fraction k) (past-exponent t)
     (at-end-empty (a .text .now) _ (a .end) (c .if1 .taken))
 
 returns-2 : tie.Need-returns-2
@@ -72,17 +76,19 @@ returns-2 c =
 returns-3 : tie.Need-returns-3
 returns-3 c =
     let e = c .before .before in
-    let a = start (at-fraction (e .before)) .args in
-    exponent-bad (a .hex) (a .seen) (bytes (at-fraction (e .before)) (a .at)) (past-fraction (e .before))
+    let k = e .before in
+    let a = start (at-fraction k) .args in
+    exponent-bad (a .hex) (a .seen) (bytes (at-fraction k) (a .at)) (past-fraction k)
     (found-bad (e .exponent-at .ensures) (c .enum-told2 .given .1))
 
 returns-4 : tie.Need-returns-4
 returns-4 c =
-    let e = at-exponent (c .before) in
-    let a = start (at-fraction (e .before)) .args in
-    let v = c .before .before .e .given in
-    let w = found-within (e .exponent-at .ensures) (v .1) in
-    normal-more (a .hex) (a .seen) (bytes (at-fraction (e .before)) (a .at)) (past-fraction (e .before)) (past-exponent (c .before))
+    let t = c .before in
+    let k = fraction-told t in
+    let a = start (at-fraction k) .args in
+    let v = t .before .e .given in
+    let w = found-within (at-exponent t .exponent-at .ensures) (v .1) in
+    normal-more (a .hex) (a .seen) (bytes (at-fraction k) (a .at)) (past-fraction k) (past-exponent t)
     (at-byte (a .text .now) (v .0 .1 .0) (a .end) (omega arith) (omega arith))
 
 pub float-at-spec : {M : Type 1} → statement M

@@ -18,12 +18,10 @@ use contract.Lifetimes.{Lfts, AllOutlive}
 use contract.Monad.{Fun, fact}
 use contract.Running.{givenOf, tables, tablesOf}
 use types.Kit.{Given, Item, ‵, raw, _⊛_, ⋆, some, later, _$_, _∵_, !, qed, by, move, keep, drop, use1, use2, split, join, pick}
-use types.Kit.{fsplit, fsplit3}
-use types.Kit.{fjoin, fjoin3, feqL, feqI, suffices, frame, await, done}
+use types.Kit.{fsplit, fsplit3, fjoin, fjoin3, feqL, feqI, suffices, frame, await, done}
 use types.Part.{whole, sub, look-in, agg}
-use types.Run.{look, init, forget, stop, hop, fld, from, load, addr, of-opd, and-then, no-more, assigns, land, returns, enter, alloc1}
-use types.Run.{alloc0}
-use types.Run.{params1, pass1, pass0, free1, free0}
+use types.Run.{look, init, forget, stop, hop, fld, from, load, addr, of-opd, and-then, no-more, assigns, land, returns, enter}
+use types.Run.{alloc1, alloc0, params1, pass1, pass0, free1, free0}
 use sound.WpLaws.{FmC, fmOf, WpFn-mono}
 use denote.RattleType.{owns}
 use denote.Laws.{Is, shows}
@@ -40,9 +38,8 @@ use denote.Triple.Clauses.{ensured, lasts}
 use denote.Triple.Entry.{Vals, onEntry}
 use denote.Triple.Spec.{Meets, tripleOf}
 use denote.Triple.Table.{entered, cited}
-use denote.Triple.Walked.{says, Stays, stay-none-ref, stay-none, gave-slice, walkOf, goes-none-ref, goes-none, goes-gave-slice, Walks}
-use denote.Triple.Walked.{ends-at}
-use denote.Triple.Walked.{walked, walk-meets}
+use denote.Triple.Walked.{says, Stays, stay-none-ref, stay-none, gave-slice, walkOf, goes-none-ref, goes-none, goes-gave-slice}
+use denote.Triple.Walked.{Walks, ends-at, walked, walk-meets}
 use denote.Exit.{yes}
 use Rattle.wat.specs.Division.{Listing}
 use Rattle.wat.specs.declared.Listed.{Listed}
@@ -67,13 +64,9 @@ abbrev behind : Slot 3
 behind = plain (λ κs. T.the-row (namedLft 3 1 tt κs))
 
 abbrev stayed : Stays (list.ended .signature .params) (list.ended .kept)
-stayed = (
-  stay-none-ref (0 ∷ []) tt behind yes,
-  (
-    stay-none (λ _. usize) yes,
-    (stay-none (λ _. usize) yes, (gave-slice (2 ∷ []) tt (plain (λ _. u8)), tt)),
-  ),
-)
+stayed =
+    let number = stay-none (λ _. usize) yes in
+    (stay-none-ref (0 ∷ []) tt behind yes, (number, (number, (gave-slice (2 ∷ []) tt (plain (λ _. u8)), tt))))
 
 module _ {M : Type 1} (𝓤 : URA M) (H : Heap 𝓤) (A : Atoms 𝓤) (mem : Memory → SProp 𝓤) (run : Routine → Fun 𝓤) where
   -- the contract that the proof cites
@@ -203,14 +196,11 @@ module _ {M : Type 1} (𝓤 : URA M) (H : Heap 𝓤) (A : Atoms 𝓤) (W : Given
         -- …; _4; …; _3; …; _2; …; _1; …; room for _0; …]
         peeks ! S.the-row (Is S.the-row) (shows 𝓤 H A S.the-row) r (u ∷ []) (λ is.
         land ! (from ! (stop !)) (init ! 23 refl (LL.lawful S.the-type S′.the-laws 𝓤 H A W .typed r _ is .0)) $
-        returns ! (look ! 23 refl) $ forget ! 7 refl $ forget ! 9 refl $ forget ! 11 refl $ forget ! 13 refl $ forget ! 15 refl $
-        forget ! 17 refl $
-        forget ! 19 refl $ forget ! 21 refl $ forget ! 23 refl $
+        returns ! (look ! 23 refl) $ forget ! 7 refl $ forget ! 9 refl $ forget ! 11 refl $ forget ! 13 refl $
+        forget ! 15 refl $ forget ! 17 refl $ forget ! 19 refl $ forget ! 21 refl $ forget ! 23 refl $
         move ! (23 ∷ 24 ∷ []) $ free1 ! $ move ! (21 ∷ 22 ∷ []) $ free1 ! $ move ! (19 ∷ 20 ∷ []) $ free1 ! $
-        move ! (17 ∷ 18 ∷ []) $ free1 ! $
-        move ! (15 ∷ 16 ∷ []) $ free1 ! $
-        move ! (13 ∷ 14 ∷ []) $ free1 ! $ move ! (11 ∷ 12 ∷ []) $ free1 ! $ move ! (9 ∷ 10 ∷ []) $ free1 ! $
-        move ! (7 ∷ 8 ∷ []) $ free1 ! $ free0 ! $
+        move ! (17 ∷ 18 ∷ []) $ free1 ! $ move ! (15 ∷ 16 ∷ []) $ free1 ! $ move ! (13 ∷ 14 ∷ []) $ free1 ! $
+        move ! (11 ∷ 12 ∷ []) $ free1 ! $ move ! (9 ∷ 10 ∷ []) $ free1 ! $ move ! (7 ∷ 8 ∷ []) $ free1 ! $ free0 ! $
         keep ! (0 ∷ 1 ∷ 2 ∷ 4 ∷ 5 ∷ 6 ∷ []) $ by ! (exits r u (zs .1 .1 .1 .1 .0) e long)))))))))))))))))
 
 module _ {M : Type 1} (𝓤 : URA M) (H : Heap 𝓤) (A : Atoms 𝓤) (W : Given 𝓤 H A) (mem : Memory → SProp 𝓤)
@@ -225,27 +215,19 @@ module _ {M : Type 1} (𝓤 : URA M) (H : Heap 𝓤) (A : Atoms 𝓤) (W : Given
         (uint-tells w64, (uint-tells w64, (mut-slice-tells (named 2) (κs .1 .1 .0) u8, tt))),
       ))
       (λ κs qs bounds a g are. via 𝓤 _ (fst∗ 𝓤 _ (emp 𝓤))
-      (walk 𝓤 H A W mem run (κs .0) (κs .1 .0) (κs .1 .1 .0) (qs .0) (qs .1 .0) (qs .1 .1 .0)
-      bounds
+      (walk 𝓤 H A W mem run (κs .0) (κs .1 .0) (κs .1 .1 .0) (qs .0) (qs .1 .0) (qs .1 .1 .0) bounds
       (a .0 .ptr .0) (a .0 .ptr .1) (a .0 .name) (a .0 .now) (a .1 .0) (a .1 .1 .0) (are .1 .0 .1) (are .1 .1 .0 .1)
-      (a .1 .1 .1 .0) C Λ fm known
-      (are .1 .1 .1 .0 .0 .1)))
+      (a .1 .1 .1 .0) C Λ fm known (are .1 .1 .1 .0 .0 .1)))
 
 list-meets : {M : Type 1} (𝓤 : URA M) (H : Heap 𝓤) (A : Atoms 𝓤) (W : Given 𝓤 H A) (mem : Memory → SProp 𝓤)
     (run : Routine → Fun 𝓤) (𝓣 : Tables 𝓤 H)
     → Triple 𝓤 (𝓣 .C #lex-list·list) (Callee 𝓤 H A mem run)
     → Meets 𝓤 H A list.signature (WpFn 𝓤 H (𝓣 .C) (𝓣 .Λ) code.function) (list.spec 𝓤 H A mem run)
 list-meets 𝓤 H A W mem run 𝓣 known =
-    walk-meets 𝓤 H A list.ended stayed W (
-      goes-none-ref 𝓤 H A W 3 (0 ∷ []) tt behind yes,
-      (
-        goes-none 𝓤 H A W 3 (λ _. usize) yes (λ κs x f. refl),
-        (
-          goes-none 𝓤 H A W 3 (λ _. usize) yes (λ κs x f. refl),
-          (goes-gave-slice 𝓤 H A W 3 2 tt (plain (λ _. u8)), tt),
-        ),
-      ),
-    ) (list.clauses 𝓤 H A mem run)
+    let number = goes-none 𝓤 H A W 3 (λ _. usize) yes (λ κs x f. refl) in
+    let list-given = goes-gave-slice 𝓤 H A W 3 2 tt (plain (λ _. u8)) in
+    walk-meets 𝓤 H A list.ended stayed W
+    (goes-none-ref 𝓤 H A W 3 (0 ∷ []) tt behind yes, (number, (number, (list-given, tt)))) (list.clauses 𝓤 H A mem run)
     (WpFn 𝓤 H (𝓣 .C) (𝓣 .Λ) code.function) (WpFn-mono 𝓤 H (W .laws) 𝓣 code.function)
     (list-walks 𝓤 H A W mem run (𝓣 .C) (𝓣 .Λ) (fmOf 𝓤 H (W .laws) 𝓣) known)
 
