@@ -3,7 +3,7 @@ use Prim.Native.Nat.{ℕ}
 use mathlib.Core.Path.{_≡_, sym, _∙_}
 use native.Mathlib.Omega.{arith}
 use Rattle.wat.specs.declared.Token.{Token}
-use Rattle.codes.proofs.NumberLaws.{injective}
+use Rattle.wat.proofs.KindNumbers.{injective}
 use Rattle.c_asked.specs.Asked.{NoToken, TokenOf}
 
 pub named-one : {k o l : ℕ} {t u : Token} → TokenOf k o l t → TokenOf k o l u → t ≡ u

@@ -6,7 +6,11 @@ use Rattle.wat.specs.declared.{Checked.Checked, Refusal.Refusal, Found.Found, P
 use Rattle.wat.specs.declared.Checked.the-variants.{Ok, Bad}
 use Rattle.wat.specs.declared.Found.the-variants as found
 use Rattle.wat.specs.declared.Stop.the-variants as stop
-use Rattle.wat.specs.Cases.{kindNumber, number}
+use Rattle.wat.specs.Cases.{kindNumber, number, listFull}
+
+-- the number of the words and constants of include/thallusweb.h: a header and a library of one number belong together
+abbrev pub wordsVersion : ℕ
+wordsVersion = 1
 
 -- 0, or 2 and its two numbers
 abbrev pub checkedWords : Checked → List ℕ
@@ -27,12 +31,12 @@ foundWords (found.Refused r p) = refusedWords r p
 abbrev pub parsedWords : Parsed → List ℕ
 parsedWords r = foundWords (r .found) ++ (r .position ∷ [])
 
--- why a listing stopped: 0 the end, 1 the budget, 2 a refusal, 3 no room, which is 33
+-- why a listing stopped: 0 the end, 1 the budget, 2 a refusal, 3 no room, with its number
 abbrev pub stopWords : Stop → List ℕ
 stopWords stop.End = 0 ∷ 0 ∷ 0 ∷ 0 ∷ 0 ∷ []
 stopWords stop.Budget = 1 ∷ 0 ∷ 0 ∷ 0 ∷ 0 ∷ []
 stopWords (stop.Refused r p) = refusedWords r p
-stopWords stop.Full = 3 ∷ 33 ∷ 0 ∷ 0 ∷ 0 ∷ []
+stopWords stop.Full = 3 ∷ listFull ∷ 0 ∷ 0 ∷ 0 ∷ []
 
 -- why it stopped, how many tokens it handed out, and the position
 abbrev pub listedWords : Listed → List ℕ

@@ -1,13 +1,22 @@
 // The lexer's answers as words: what crosses the border to C. include/thallusweb.h explains each word.
 ghost use mathlib.Core.Path.{_≡_};
 ghost use Rattle.c_words.specs.Words.{refusedWords, checkedWords, foundWords};
-ghost use Rattle.c_words.specs.Words.{parsedWords, stopWords, listedWords};
+ghost use Rattle.c_words.specs.Words.{parsedWords, stopWords, listedWords, wordsVersion};
 use wat::Checked;
 use wat::Found;
 use wat::Listed;
 use wat::Parsed;
 use wat::Refusal;
 use wat::Stop;
+
+// The number of the words and constants of include/thallusweb.h, there THALLUSWEB_VERSION. It rises when one changes.
+pub const VERSION: u32 = 1;
+
+pub fn version() -> u32
+    ensures { λ r. ⌜ r ≡ wordsVersion ⌝ }
+{
+    VERSION
+}
 
 // A refusal: 2, its number, its place and its values.
 pub fn refused_words(r: Refusal, place: usize) -> [u64; 5]

@@ -23,7 +23,8 @@ use Rattle.wat_laws.proofs.Total.{lexed}
 use Rattle.codes.specs.declared.MaybeKind.{MaybeKind}
 use Rattle.codes.specs.declared.MaybeKind.the-variants.{Kind, NoKind}
 use Rattle.codes.specs.Numbered.{Numbered}
-use Rattle.codes.proofs.NumberLaws.{kind-some, injective, named-kind, no-kind}
+use Rattle.wat.proofs.KindNumbers.{kind-some, injective}
+use Rattle.codes.proofs.NumberLaws.{named-kind, no-kind}
 use Rattle.lex_token.specs.declared.Step.{Step}
 use Rattle.lex_token.specs.Steps.{Stepped, Faults}
 use Rattle.lex_token.proofs.StepLaws.{token-of, fault-of}

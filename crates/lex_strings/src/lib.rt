@@ -104,8 +104,7 @@ pub fn decoded_len(s: &[u8], at: usize) -> usize
     }
 }
 
-// Writes the bytes that a whole string stands for to the front of a buffer that has the room; returns how many they
-// are.
+// Writes the bytes that a whole string stands for to the front of a buffer that has the room; returns how many.
 pub fn decode_into(s: &[u8], at: usize, dst: &mut [u8]) -> usize
     requires { ⌜ (at ≤ length (now s)) × Closes (string lenient (drop at (now s))) ⌝ }
     requires { ⌜ length (valueOf (string lenient (drop at (now s)))) ≤ length (now dst) ⌝ }

@@ -2,7 +2,7 @@
 // calls on plain parameters.
 ghost use mathlib.Core.Path.{_≡_};
 ghost use denote.Ref.{at-last};
-ghost use Rattle.wat.specs.Calls.{Parses, Annotates};
+ghost use Rattle.wat.specs.Calls.{most, Parses, Annotates};
 ghost use Rattle.wat.specs.Division.{Listing};
 ghost use Rattle.wat.specs.Settings.{plain};
 ghost use Rattle.lex_struct.specs.Allowing.{allowing};
@@ -20,6 +20,13 @@ pub struct Lexer<'a> {
 impl<'a> Lexer<'a> {
     // The longest text that is lexed, in bytes.
     pub const MAX_TEXT: usize = Token::MAX_TEXT;
+
+    // The same number, promised: a constant has no contract.
+    pub fn max_text() -> usize
+        ensures { λ r. ⌜ r ≡ most ⌝ }
+    {
+        Lexer::MAX_TEXT
+    }
 
     // The settings are off until they are set.
     pub fn new(text: &'a [u8]) -> Lexer<'a>

@@ -26,7 +26,7 @@ use Rattle.wat.proofs.Basics.{differ}
 use Rattle.wat.proofs.Families.{Families, is-space, is-open, is-close, is-semi, is-single, is-char, is-quote, is-other, families}
 use Rattle.wat_laws.proofs.Total.{lexed}
 use Rattle.lex_classes.specs.Scan.{Scanned}
-use Rattle.codes.proofs.NumberLaws.{kind-some, kind-small}
+use Rattle.wat.proofs.KindNumbers.{kind-some, kind-small}
 use Rattle.lex_token.specs.declared.Step.{Step}
 use Rattle.lex_token.specs.Steps.{nowhere, stepOf, Stepped}
 use Rattle.lex_token.proofs.LexLaws.{lex-family, Within, lex-within}

@@ -15,12 +15,13 @@ use Rattle.wat.specs.{Bytes.between, Cases.errorNumber}
 use Rattle.wat.proofs.Basics.{between-true, below, never}
 use Rattle.messages.specs.declared.Told.{Told}
 use Rattle.messages.specs.Messages.{Tells}
-use Rattle.messages.specs.ByNumber.{Spelled, NoError, TellsBy}
-use Rattle.messages.specs.MessageModel.{known, answer}
+use Rattle.messages.specs.ByNumber.{bits, Spelled, TellsBy}
+use Rattle.messages.specs.MessageModel.{known, wide, answer}
 use Rattle.messages.proofs.OneMessage.{tells-one}
 use Rattle.messages.proofs.MessageLaws.{and-left, and-right, Carries}
 use Rattle.messages.proofs.AnswerLaws.{unknown, untold}
-use Rattle.messages.proofs.TellLaws.{answered, tells, no-number}
+use Rattle.messages.proofs.TellLaws.{answered, tells, carries, no-number}
+use Rattle.messages.proofs.WidthLaws.{Room, narrow, room, not-wide}
 
 -- an error of a number, with the values a and b; and those of the numbers from n on
 abbrev Named : ℕ → ℕ → ℕ → LexError → Type 0
@@ -67,56 +68,67 @@ named n a b k =
     (λ l. row a b 16 (high a b) (highs a b) n (omega arith) (omega arith))
     (below n 15)
 
-spelled : (n a b : ℕ) → known n ≡ true → a < 2 ^ 32 → b < 2 ^ 32 → (e : LexError) × Spelled n a b e
-spelled n a b k h l =
+-- words that pass the test of their width spell an error
+spelled : (n a b : ℕ) → known n ≡ true → wide n a b ≡ false → a < 2 ^ 64 → b < 2 ^ 64 → (e : LexError) × Spelled n a b e
+spelled n a b k w h l =
     let r = named n a b k in
-    let numbered = ap (λ (c : ℕ × List ℕ). c .0) (r .1) in
+    let e = r .0 in
+    let numbered : errorNumber e .0 ≡ n = ap (λ (c : ℕ × List ℕ). c .0) (r .1) in
     let values = ap (λ (c : ℕ × List ℕ). c .1) (r .1) in
-    (r .0, record { numbered = numbered; values = values; first = h; second = l })
+    let m : Room n a b (length (errorNumber e .1)) = rw numbered at (room e (rw numbered w) h l) in
+    (e, record { numbered = numbered; values = values; first = m .0; second = m .1 })
 
--- the values that a number comes with are those of its error
-taken : (vs : List ℕ) (a b : ℕ) → vs ≡ take (length vs) (a ∷ b ∷ []) → Carries vs a b
-taken [] a b e = tt
-taken (c ∷ []) a b e = ap (λ (l : List ℕ). getD l 0 0) e
-taken (c ∷ d ∷ vs) a b e = (ap (λ (l : List ℕ). getD l 0 0) e, ap (λ (l : List ℕ). getD l 1 0) e)
+-- and no others do
+pub unspelled : (n a b : ℕ) → wide n a b ≡ true → (e : LexError) → Spelled n a b e → ⊥
+unspelled n a b w e s =
+    let r : Room (errorNumber e .0) a b (length (errorNumber e .1)) = rw (s .numbered) (s .first, s .second) in
+    never w (rw (s .numbered) at (not-wide e r))
 
+-- a and b, as far as an error carries them
+taken : (vs : List ℕ) {a b c d : ℕ} → vs ≡ take (length vs) (a ∷ b ∷ []) → (0 < length vs → c ≡ a)
+    → (1 < length vs → d ≡ b) → Carries vs c d
+taken [] e f g = tt
+taken (v ∷ []) e f g = ap (λ (l : List ℕ). getD l 0 0) e ∙ sym (f (omega arith))
+taken (v ∷ w ∷ vs) e f g =
+    (ap (λ (l : List ℕ). getD l 0 0) e ∙ sym (f (omega arith)), ap (λ (l : List ℕ). getD l 1 0) e ∙ sym (g (omega arith)))
+
+-- the model's answer at c and d, which are a and b where those are of 32 bits
 tells-spelled :
-    (n a b : ℕ) (buffer : List ℕ) {e : LexError} → Spelled n a b e
-    → Tells (refusal.Lexical e) buffer (answer n a b buffer .0) (answer n a b buffer .1)
-tells-spelled n a b buffer {e} s =
+    (n a b c d : ℕ) (buffer : List ℕ) {e : LexError} → (a < 2 ^ 32 → c ≡ a) → (b < 2 ^ 32 → d ≡ b) → Spelled n a b e
+    → Tells (refusal.Lexical e) buffer (answer n c d buffer .0) (answer n c d buffer .1)
+tells-spelled n a b c d buffer {e} f g s =
     answered
     (refusal.Lexical e)
     buffer
-    (ap (λ (k : ℕ). answer k a b buffer) (sym (s .numbered)))
-    (tells e a b buffer (taken (errorNumber e .1) a b (s .values)))
+    (ap (λ (k : ℕ). answer k c d buffer) (sym (s .numbered)))
+    (tells e c d buffer (carries e c d λ not22.
+    let r : bits n ≡ 32 = narrow n (λ q. not22 (s .numbered ∙ q)) in
+    taken (errorNumber e .1) (s .values) (λ h. f (rw r at (s .first h))) (λ h. g (rw r at (s .second h)))))
 
 pub tells-by :
-    (n a b : ℕ) {buffer left : List ℕ} {m : Told} → a < 2 ^ 32 → b < 2 ^ 32 → (m, left) ≡ answer n a b buffer
+    (n a b c d : ℕ) {buffer left : List ℕ} {m : Told} → wide n a b ≡ false → a < 2 ^ 64 → b < 2 ^ 64
+    → (a < 2 ^ 32 → c ≡ a) → (b < 2 ^ 32 → d ≡ b) → (m, left) ≡ answer n c d buffer
     → TellsBy n a b buffer m left
-tells-by n a b {buffer} {left} {m} h l z = go (known n) refl
+tells-by n a b c d {buffer} {left} {m} w h l f g z = go (known n) refl
   where
     go : (x : Bool) → known n ≡ x → TellsBy n a b buffer m left
-    go true k = let s = spelled n a b k h l .1 in TellsBy.error s (answered _ buffer z (tells-spelled n a b buffer s))
+    go true k =
+        let s = spelled n a b k w h l .1 in TellsBy.error s (answered _ buffer z (tells-spelled n a b c d buffer f g s))
     go false k =
         subst
         (λ (x : Told × List ℕ). TellsBy n a b buffer (x .0) (x .1))
-        (untold n a b buffer (sym (unknown n a b k)) ∙ sym z)
-        (TellsBy.none (NoError.nameless (no-number k)))
+        (untold n c d buffer (sym (unknown n c d k)) ∙ sym z)
+        (TellsBy.none (λ e s. no-number k e (s .numbered)))
 
 -- ---- no other answer
-
-spelled-or-not : {n a b : ℕ} {e : LexError} → Spelled n a b e → NoError n a b → ⊥
-spelled-or-not {e = e} s (NoError.nameless x) = x e (s .numbered)
-spelled-or-not s (NoError.wide h) = let f = s .first in omega arith
-spelled-or-not s (NoError.second-wide h) = let f = s .second in omega arith
 
 pub tells-by-one :
     {n a b : ℕ} {buffer c c′ : List ℕ} {m m′ : Told} → TellsBy n a b buffer m c → TellsBy n a b buffer m′ c′
     → (m ≡ m′) × (c ≡ c′)
 tells-by-one {n} {a} {b} {buffer} (TellsBy.error s t) (TellsBy.error s′ t′) =
-    let p = tells-one t (tells-spelled n a b buffer s) in
-    let q = tells-one t′ (tells-spelled n a b buffer s′) in
+    let p = tells-one t (tells-spelled n a b a b buffer (λ h. refl) (λ h. refl) s) in
+    let q = tells-one t′ (tells-spelled n a b a b buffer (λ h. refl) (λ h. refl) s′) in
     (p .0 ∙ sym (q .0), p .1 ∙ sym (q .1))
-tells-by-one (TellsBy.error s t) (TellsBy.none x) = absurd (spelled-or-not s x)
-tells-by-one (TellsBy.none x) (TellsBy.error s t) = absurd (spelled-or-not s x)
+tells-by-one (TellsBy.error s t) (TellsBy.none x) = absurd (x _ s)
+tells-by-one (TellsBy.none x) (TellsBy.error s t) = absurd (x _ s)
 tells-by-one (TellsBy.none x) (TellsBy.none y) = (refl, refl)

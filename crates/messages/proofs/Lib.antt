@@ -5,4 +5,5 @@ mod LeadLaws
 pub mod MessageLaws
 mod AnswerLaws
 mod TellLaws
+mod WidthLaws
 pub mod ByNumberLaws

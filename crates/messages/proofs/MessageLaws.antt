@@ -5,12 +5,14 @@ use mathlib.Core.Logic.{⊎-elim}
 use mathlib.Core.Bool.{Bool, true, false, _&&_}
 use mathlib.Core.List.{List, [], _∷_, _++_}
 use native.Mathlib.Omega.{arith}
+use lib.Dec.{eqb}
 use lib.ListN.{length, length-append}
 use Rattle.wat.specs.declared.LexError.{LexError}
 use Rattle.wat.specs.declared.LexError.the-variants.{DanglingBlockComment, Unexpected, InvalidStringElement, InvalidStringEscape}
 use Rattle.wat.specs.declared.LexError.the-variants.{InvalidHexDigit, Expected, UnexpectedEof, NumberTooBig, InvalidUnicodeValue}
 use Rattle.wat.specs.declared.LexError.the-variants.{LoneUnderscore, ConfusingUnicode, InvalidUtf8Id, EmptyId, EmptyAnnotation}
 use Rattle.wat.specs.{Bytes.bytes, Bytes.between, Bytes.has, Chars.isScalar, Chars.confusing, Cases.errorNumber}
+use Rattle.wat.specs.Utf8Model.{pick}
 use Rattle.messages.specs.Messages.{named, Shown, Displays}
 use Rattle.wat.proofs.Basics.{never, has-every}
 use Rattle.wat.proofs.ScalarValues.{scalar-low}
@@ -43,9 +45,13 @@ Carries [] a b = Unit {0}
 Carries (c ∷ []) a b = c ≡ a
 Carries (c ∷ d ∷ vs) a b = (c ≡ a) × (d ≡ b)
 
+-- the values that its message shows: all but the lengths of 22
+abbrev pub values : LexError → List ℕ
+values e = pick (eqb (errorNumber e .0) 22) [] (errorNumber e .1)
+
 -- the message of an error that has one
 pub displays :
-    (e : LexError) (a b : ℕ) → Carries (errorNumber e .1) a b → tellable (errorNumber e .0) a b ≡ true
+    (e : LexError) (a b : ℕ) → Carries (values e) a b → tellable (errorNumber e .0) a b ≡ true
     → Displays e (message (errorNumber e .0) a b)
 unfolding between known showable tellable message lead rest
 displays DanglingBlockComment a b q t = Displays.dangling
@@ -68,7 +74,7 @@ displays EmptyAnnotation a b q t = Displays.empty-annotation
 
 -- and no other has one
 pub has-message :
-    {e : LexError} {m : List ℕ} (a b : ℕ) → Displays e m → Carries (errorNumber e .1) a b
+    {e : LexError} {m : List ℕ} (a b : ℕ) → Displays e m → Carries (values e) a b
     → tellable (errorNumber e .0) a b ≡ true
 unfolding between known showable tellable
 has-message a b Displays.dangling q = refl

@@ -5,18 +5,18 @@ use mathlib.Core.Bool.{Bool, true, false}
 use mathlib.Core.List.{List, [], _∷_}
 use lib.Dec.{eqb, ltb}
 use lib.ListN.{length, getD}
-use borrow.Author.Tests.{ltb-true, ltb-false, eqb-true, eqb-false}
+use borrow.Author.Tests.{ltb-true, ltb-false, eqb-false}
 use Rattle.wat.specs.declared.{LexError.LexError, Refusal.Refusal}
 use Rattle.wat.specs.declared.LexError.the-variants as error
 use Rattle.wat.specs.declared.Refusal.the-variants as refusal
-use Rattle.wat.specs.{Bytes.between, Cases.errorNumber, Cases.number}
+use Rattle.wat.specs.{Bytes.between, Cases.errorNumber, Cases.number, Utf8Model.pick}
 use Rattle.wat.proofs.Basics.{never}
 use Rattle.codes.specs.declared.Code.{Code}
 use Rattle.codes.specs.Coded.{Coded}
 use Rattle.messages.specs.declared.Told.{Told}
 use Rattle.messages.specs.Messages.{Displays, Tells}
-use Rattle.messages.specs.MessageModel.{known, showable, tellable, rest, message, fitted, answer}
-use Rattle.messages.proofs.MessageLaws.{Carries, displays, has-message}
+use Rattle.messages.specs.MessageModel.{known, tellable, fitted, answer}
+use Rattle.messages.proofs.MessageLaws.{Carries, values, displays, has-message}
 use Rattle.messages.proofs.AnswerLaws.{unknown, untold, fit}
 
 -- an error's number, and its values, 0 for each that it lacks
@@ -47,7 +47,7 @@ pub answered : (r : Refusal) (buffer : List ℕ) {x y : Told × List ℕ} → x 
 answered r buffer q t = subst (λ (z : Told × List ℕ). Tells r buffer (z .0) (z .1)) (sym q) t
 
 pub tells :
-    (e : LexError) (a b : ℕ) (buffer : List ℕ) → Carries (errorNumber e .1) a b
+    (e : LexError) (a b : ℕ) (buffer : List ℕ) → Carries (values e) a b
     → Tells (refusal.Lexical e) buffer (answer (numberOf e) a b buffer .0) (answer (numberOf e) a b buffer .1)
 tells e a b buffer q = go (tellable (numberOf e) a b) refl
   where
@@ -60,6 +60,15 @@ tells e a b buffer q = go (tellable (numberOf e) a b) refl
         → Tells (refusal.Lexical e) buffer (answer (numberOf e) a b buffer .0) (answer (numberOf e) a b buffer .1)
     go true t = answered (refusal.Lexical e) buffer (sym (fit (numberOf e) a b buffer t)) (fits buffer (displays e a b q t))
     go false t = answered (refusal.Lexical e) buffer (sym (untold (numberOf e) a b buffer t)) (Tells.none (none t))
+
+-- the values that count: those of 22 do not
+pub carries :
+    (e : LexError) (a b : ℕ) → ((numberOf e ≡ 22 → ⊥) → Carries (errorNumber e .1) a b) → Carries (values e) a b
+carries e a b f = go (eqb (numberOf e) 22) refl
+  where
+    go : (t : Bool) → eqb (numberOf e) 22 ≡ t → Carries (pick t [] (errorNumber e .1)) a b
+    go true q = tt
+    go false q = f (eqb-false (numberOf e) 22 q)
 
 -- ---- of a refusal
 
@@ -93,29 +102,14 @@ two-unknown : known 2 ≡ false
 unfolding between known
 two-unknown = refl
 
--- the message of 22 shows no value
-hidden-values : (a b c d : ℕ) (buffer : List ℕ) → answer 22 a b buffer ≡ answer 22 c d buffer
-unfolding between known showable tellable rest message answer
-hidden-values a b c d buffer = refl
-
 -- a and b are the values of a code, where they are of 32 bits
 module _ {c : Code} {a b : ℕ} (p : c .first < 2 ^ 32 → a ≡ c .first) (q : c .second < 2 ^ 32 → b ≡ c .second)
     (buffer : List ℕ) where
-  shows : (e : LexError) → Coded (errorNumber e) c
-      → answer (numberOf e) a b buffer ≡ answer (numberOf e) (firstOf e) (secondOf e) buffer
-  shows e d = go (eqb (numberOf e) 22) refl
-    where
-      go : (t : Bool) → eqb (numberOf e) 22 ≡ t
-          → answer (numberOf e) a b buffer ≡ answer (numberOf e) (firstOf e) (secondOf e) buffer
-      go true t =
-          let z = eqb-true (numberOf e) 22 t in
-          ap (λ (n : ℕ). answer n a b buffer) z
-          ∙ hidden-values a b (firstOf e) (secondOf e) buffer
-          ∙ sym (ap (λ (n : ℕ). answer n (firstOf e) (secondOf e) buffer) z)
-      go false t =
-          let w = d .narrow (no-number two-unknown e) (eqb-false (numberOf e) 22 t) in
-          ap (λ (x : ℕ). answer (numberOf e) x b buffer) (p (w .0) ∙ d .one)
-          ∙ ap (λ (y : ℕ). answer (numberOf e) (firstOf e) y buffer) (q (w .1) ∙ d .two)
+  shows : (e : LexError) → Coded (errorNumber e) c → Carries (values e) a b
+  shows e d = carries e a b λ not22.
+      let w = d .narrow (no-number two-unknown e) not22 in
+      let z : (a ≡ firstOf e) × (b ≡ secondOf e) = (p (w .0) ∙ d .one, q (w .1) ∙ d .two) in
+      rw (z .0, z .1) (own (errorNumber e .1))
 
   coded :
       {left : List ℕ} {m : Told} {n : ℕ × List ℕ} → Coded n c → (m, left) ≡ answer (c .number) a b buffer
@@ -141,7 +135,7 @@ module _ {c : Code} {a b : ℕ} (p : c .first < 2 ^ 32 → a ≡ c .first) (q : 
   tells-refusal refusal.PastEnd d z = other refusal.PastEnd refl d z
   tells-refusal refusal.InsideCharacter d z = other refusal.InsideCharacter refl d z
   tells-refusal (refusal.Lexical e) d z =
-      answered (refusal.Lexical e) buffer (coded d z ∙ shows e d) (tells e (firstOf e) (secondOf e) buffer (own (errorNumber e .1)))
+      answered (refusal.Lexical e) buffer (coded d z) (tells e a b buffer (shows e d))
   tells-refusal refusal.NotThatToken d z = other refusal.NotThatToken refl d z
   tells-refusal refusal.NotThatKind d z = other refusal.NotThatKind refl d z
   tells-refusal refusal.BufferTooShort d z = other refusal.BufferTooShort refl d z

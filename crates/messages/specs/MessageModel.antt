@@ -15,6 +15,11 @@ use Rattle.messages.specs.Spelled.{hex, shown, lead}
 unfoldable pub known : ℕ → Bool
 known n = (between 10 24 n) && (not (eqb n 15))
 
+-- it carries a value that is over 32 bits; the lengths of 22 may be
+unfoldable pub wide : ℕ → ℕ → ℕ → Bool
+wide n a b =
+    (eqb n 16 && ltb 0xFFFFFFFF b) || ((between 11 14 n || eqb n 16 || eqb n 19 || eqb n 21) && ltb 0xFFFFFFFF a)
+
 -- the characters that a message shows are scalar values, and a confusing one is one of the nine
 unfoldable pub showable : ℕ → ℕ → ℕ → Bool
 showable n a b =

@@ -9,7 +9,8 @@ ghost use Rattle.buffers.specs.Writing.{Added};
 ghost use Rattle.messages.specs.Messages.{figure, named, Tells};
 ghost use Rattle.messages.specs.ByNumber.{TellsBy};
 ghost use Rattle.messages.specs.Spelled.{hex, letterByte, shown, longestLead, longestRest, lead as lead-of};
-ghost use Rattle.messages.specs.MessageModel.{known, tellable, rest as rest-of, message as message-of, answer};
+ghost use Rattle.messages.specs.MessageModel.{known, wide, tellable, answer};
+ghost use Rattle.messages.specs.MessageModel.{rest as rest-of, message as message-of};
 use wat::Refusal;
 
 // A message of so many bytes at the front of the buffer, or a refusal.
@@ -18,8 +19,7 @@ pub enum Told {
     Written(usize),
 }
 
-// Writes the message of an error to the front of the buffer. Refused by 34 if there is none, then by 32 if it is too
-// long for the buffer.
+// Writes an error's message to the front of the buffer. Refused by 34 if there is none, then by 32 if it is too long.
 pub fn message(r: Refusal, buffer: &mut [u8]) -> Told
     ensures { λ m. ⌜ Tells r (now (buffer .entry)) m (now (buffer .exit)) ⌝ }
 {
@@ -27,20 +27,25 @@ pub fn message(r: Refusal, buffer: &mut [u8]) -> Told
     tell(c.number as u64, narrow(c.first), narrow(c.second), buffer)
 }
 
-// The same for the error that has the number and the values. A value over 32 bits is no error's: 34.
+// The same for the error that has the number and, of the values, those that it carries. 34 if no error has them.
 pub fn message_of(number: u64, first: u64, second: u64, buffer: &mut [u8]) -> Told
     ensures { λ m. ⌜ TellsBy number first second (now (buffer .entry)) m (now (buffer .exit)) ⌝ }
 {
-    if 0xFFFF_FFFF < first {
+    if is_wide(number, first, second) {
         return Told::Refused(Refusal::NoMessage);
     }
-    if 0xFFFF_FFFF < second {
-        return Told::Refused(Refusal::NoMessage);
-    }
-    tell(number, first as u32, second as u32, buffer)
+    tell(number, narrow(first), narrow(second), buffer)
 }
 
-// A value of 32 bits as it is. Only the lengths of 2 and 22 may be wider, which no message shows.
+// Whether an error carries a value that is over 32 bits. The lengths of 22 may be.
+fn is_wide(number: u64, first: u64, second: u64) -> bool
+    ensures { λ r. ⌜ r ≡ wide number first second ⌝ }
+{
+    let one = ((11 <= number) & (number <= 14)) | (number == 16) | (number == 19) | (number == 21);
+    ((number == 16) & (0xFFFF_FFFF < second)) | (one & (0xFFFF_FFFF < first))
+}
+
+// A value of 32 bits as it is. What may be wider no message shows: the lengths of 2 and 22, and what is not carried.
 fn narrow(value: u64) -> u32
     ensures { λ r. ⌜ (value < 2 ^ 32 → r ≡ value) ⌝ }
 {
@@ -101,7 +106,7 @@ fn is_error(number: u64) -> bool
     (10 <= number) & (number <= 24) & !(number == 15)
 }
 
-// Whether there is a message: an error's number, characters that are scalar values, a confusing one that is of the nine.
+// Whether there is a message: an error's number, characters that are scalar values, a confusing one of the nine.
 fn has_message(number: u64, first: u32, second: u32) -> bool
     ensures { λ r. ⌜ r ≡ tellable number first second ⌝ }
 {

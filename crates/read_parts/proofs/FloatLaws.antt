@@ -34,7 +34,10 @@ module _ {text : List ℕ} {at end : ℕ} {k : FloatKind} (t : At (Tok (kind.Flo
   normal-at e = record { order = t .order; fits = t .fits; is = made-at e .0 }
 
   pub payload-is-at : {n u : Bool} → k ≡ NanVal n u → At Payload text at end
-  payload-is-at e = let m = made-at e .0 in record { order = t .order; fits = t .fits; is = (m .sign, m .u, m .s, m .signed, m .is) }
+  payload-is-at e =
+      let m = made-at e .0 in
+      let x = m .2 in
+      record { order = t .order; fits = t .fits; is = (x .sign, x .u, m .0, x .signed, x .is) }
 
   module _ {p : FloatPart} {buffer after : List ℕ} {r : Reading} where
     -- what is handed over of this kind and part is so of an equal kind and part

@@ -1,1 +1,1 @@
-mod PartLaws
+pub mod PartLaws

@@ -1,13 +1,14 @@
 // The second call of the readers: the part that a first call named.
 
 ghost use Rattle.wat_values.specs.Reading.{Second};
-ghost use Rattle.read_second.specs.Parts.{PartOf};
+ghost use Rattle.read_second.specs.Parts.{PartOf, PartFor};
 use wat_values::Reading;
 
-// Returns the part of the text or of the buffer that a first call named. It takes any answer, and returns an empty part
-// if there is no such part.
+// Returns the part of the text or of the buffer that a first call named, as a reference into it. It takes any answer,
+// and returns an empty part if there is no such part: at the start of the slice that the answer names, or of the text.
 pub fn part<'a>(text: &'a [u8], buffer: &'a [u8], reading: Reading) -> &'a [u8]
-    ensures { λ r. ⌜ Second (now (text .entry)) (now (buffer .entry)) reading (now r) ⌝ }
+    ensures { λ r. ⌜ Second (now (text .entry)) (now (buffer .entry)) reading (now r)
+        × PartFor (text .entry) (buffer .entry) reading r ⌝ }
 {
     match reading {
         Reading::Text { start, len } => sub(text, start, len),
@@ -20,9 +21,9 @@ pub fn part<'a>(text: &'a [u8], buffer: &'a [u8], reading: Reading) -> &'a [u8]
     }
 }
 
-// So many bytes from a start on; none if there are fewer.
+// So many bytes from a start on; none, at the slice's start, if there are fewer.
 fn sub<'a>(s: &'a [u8], start: usize, len: usize) -> &'a [u8]
-    ensures { λ r. ⌜ PartOf (now (s .entry)) start len (now r) ⌝ }
+    ensures { λ r. ⌜ PartOf (s .entry) start len r ⌝ }
 {
     if s.len() < start {
         return &s[0..0];

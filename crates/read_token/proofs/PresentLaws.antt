@@ -23,7 +23,7 @@ use Rattle.wat_laws.proofs.Answers.{lexed-is}
 use Rattle.wat_laws.proofs.Divisions.{token-size}
 use Rattle.wat_values.proofs.SomeValue as one
 use Rattle.wat_values.proofs.ReadingLaws.{is-token}
-use Rattle.codes.proofs.NumberLaws.{kind-some, injective}
+use Rattle.wat.proofs.KindNumbers.{kind-some, injective}
 use Rattle.lex_token.specs.declared.Step.{Step}
 use Rattle.lex_token.specs.Steps.{stepOf, Stepped}
 use Rattle.lex_token.proofs.SliceLaws.{slice-take}

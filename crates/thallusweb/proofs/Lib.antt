@@ -1,3 +1,4 @@
 mod WordLaws
 pub mod OneWords
+pub mod PassWords
 pub mod Theorems

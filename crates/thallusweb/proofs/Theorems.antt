@@ -1,12 +1,14 @@
 -- What is proved, on one page: the theorems that a user relies on, as they are stated where they are proved. That the code
 -- gives the answers of which they speak is what the contracts of the public calls say (docs/PROMISES.md). Assumes nothing.
-use Prim.Native.Nat.{ℕ, _≤_}
+use Prim.Native.Nat.{ℕ, _+_, _*_, _-_, _^_, _≤_, _<_}
 use mathlib.Core.Path.{_≡_}
 use mathlib.Core.Bool.{true}
 use mathlib.Core.List.{List, [], _++_}
-use lib.ListN.{length, take, drop}
+use lib.ListN.{length, take, drop, getD}
+use denote.Ref.{RefT, ptr, now}
 use Rattle.wat.specs.declared.{Answer.Answer, TokenKind.TokenKind, Checked.Checked, Found.Found, Parsed.Parsed, Listed.Listed}
 use Rattle.wat.specs.declared.{Refusal.Refusal, Token.Token, Settings.Settings, LexError.LexError}
+use Rattle.wat.specs.declared.{Fault.Fault, LexError.the-variants.UnexpectedEof}
 use Rattle.wat.specs.declared.Answer.the-variants as answer
 use Rattle.wat.specs.declared.Stop.the-variants as stop
 use Rattle.wat_values.specs.declared.{Reading.Reading, IntegerSign.IntegerSign, FloatSign.FloatSign}
@@ -17,10 +19,11 @@ use Rattle.wat.specs.Utf8.{WellFormed, Says}
 use Rattle.wat.specs.Tokens.{Tok}
 use Rattle.wat.specs.Lexing.{Longest, Lexed}
 use Rattle.wat.specs.Calls.{Stands, Parses, Annotates, at}
-use Rattle.wat.specs.Division.{Piece, Divided, Listing}
+use Rattle.wat.specs.Division.{Piece, lengths, Divided, Walked, recordSize, records, Listing}
 use Rattle.wat.specs.LexModel.{lex}
 use Rattle.wat_values.specs.Values.{Reader, Value, Reads}
 use Rattle.wat_values.specs.Reading.{Read, Second, ReadsSign, ReadsNegative}
+use Rattle.read_second.specs.Parts.{PartFor}
 use Rattle.messages.specs.Messages.{Tells}
 use Rattle.place.specs.Places.{Moves}
 use Rattle.wat.proofs.OneKind as kinds
@@ -29,21 +32,38 @@ use Rattle.wat.proofs.Utf8Laws as utf8
 use Rattle.wat_laws.proofs.Total as total
 use Rattle.wat_laws.proofs.Answers as answers
 use Rattle.wat_laws.proofs.OneCall as calls
-use Rattle.wat_laws.proofs.Divisions.{Division}
+use Rattle.wat.specs.Whole.{Division, Whole}
 use Rattle.wat_laws.proofs.Divisions as divisions
-use Rattle.wat_laws.proofs.Listings.{Whole}
 use Rattle.wat_laws.proofs.Listings as listings
-use Rattle.wat_values.proofs.Readable.{Passes}
+use Rattle.wat_values.specs.Readable.{Passes}
+use Rattle.wat_laws.specs.Windows.{Paused, Decided, DecidedStop, movedParsed, movedListed}
+use Rattle.thallusweb.specs.Promises.{ListedWords}
+use Rattle.thallusweb.specs.ReadableWords.{PassesWords}
+use Rattle.wat_laws.proofs.ListingRoom as room
+use Rattle.wat_laws.proofs.ListingCompose as compose
+use Rattle.wat_laws.proofs.RecordLaws as decoded
+use Rattle.wat_laws.proofs.FaultPlaces as places
+use Rattle.wat_laws.proofs.Slices as slices
+use Rattle.thallusweb.proofs.PassWords as words
 use Rattle.wat_values.proofs.Readable as readable
 use Rattle.wat_values.proofs.OneValue as values
 use Rattle.wat_values.proofs.OneReading as reading
+use Rattle.read_second.proofs.PartLaws as part
 use Rattle.messages.proofs.OneMessage as message
 use Rattle.place.proofs.OnePlace as place
 
 -- ---- what passes can be read
 
+-- For callers from C: where `thallusweb_list` from 0 leaves 0 in out[0], each record of its list, decoded and handed to
+-- `thallusweb_read` with a buffer no shorter than the token, and that answer to `thallusweb_part`, gives the token's one value, and
+-- the sign calls give its sign. Only a name that is empty or not UTF-8 is refused.
+pub passes-words : {σ : Settings} {text list out l : List ℕ} {budget : ℕ} → ListedWords σ text 0 budget list out l
+    → getD out 0 0 ≡ 0 → PassesWords σ text out l
+passes-words x e = words.passes-words x e
+
 -- A text that the listing carries from byte 0 to its end is divided in one way only, and each of its tokens, read there or
--- alone with a buffer no shorter than itself, yields its one value. Only a name that is empty or not UTF-8 is refused.
+-- alone with a buffer no shorter than itself, yields its one value, and its sign to the sign call. Only a name that is empty
+-- or not UTF-8 is refused.
 pub passes-readable : {σ : Settings} {text : List ℕ} {budget : ℕ} {list l : List ℕ} {r : Listed}
     → Listing σ text 0 budget list r l → r .stop ≡ stop.End → Passes σ text list r l
 passes-readable x e = readable.passes-readable x e
@@ -56,6 +76,59 @@ listed-whole x e = listings.listed-whole x e
 -- Every byte belongs to a token, none is empty, each is the longest, and no other tokens divide the text.
 pub one-division : {σ : Settings} {s : List ℕ} {ts : List Piece} → Divided σ s ts [] → Division σ s ts
 one-division d = divisions.one-division d
+
+-- ---- listings
+
+-- With a budget and room for each byte that is left, a listing stops at the end or at a refusal, never by the budget or 33.
+pub room-enough : {σ : Settings} {text : List ℕ} {start budget : ℕ} {list l : List ℕ} {r : Listed}
+    → Listing σ text start budget list r l → length text - start ≤ budget
+    → recordSize * (length text - start) ≤ length list → (r .stop ≡ stop.Budget → ⊥) × (r .stop ≡ stop.Full → ⊥)
+room-enough x b m = room.room-enough x b m
+
+-- Stopped by the budget or by 33 and asked again at its position, the tokens together are those of one listing.
+pub listings-compose : {σ : Settings} {text : List ℕ} {start b b′ : ℕ} {list list′ l l′ : List ℕ} {r r′ : Listed}
+    (front : List ℕ) → Listing σ text start b list r l → Paused (r .stop) → Listing σ text (r .position) b′ list′ r′ l′
+    → length front ≡ recordSize * r .count
+    → Listing σ text start (r .count + b′) (front ++ list′)
+    (record { stop = r′ .stop; count = r .count + r′ .count; position = r′ .position }) (take (recordSize * r .count) l ++ l′)
+listings-compose front x p y e = compose.listings-compose front x p y e
+
+-- The records of a list determine its tokens.
+pub records-one : (s s′ : List ℕ) (ts us : List Piece) → lengths ts < 2 ^ 32 → lengths us < 2 ^ 32
+    → records s ts ≡ records s′ us → ts ≡ us
+records-one s s′ ts us h k e = decoded.records-one s s′ ts us h k e
+
+-- The position after 10 to 21 is a character boundary of the text, so that the next call is not refused by 3 or 4.
+pub fault-stands : {σ : Settings} {text : List ℕ} {at : ℕ} {f : Fault} → Stands text at
+    → Lexed σ (drop at text) (answer.Fault f) → Stands text (at + f .after)
+fault-stands s l = places.fault-stands s l
+
+-- 17 stands at the text's end.
+pub eof-at-end : {σ : Settings} {s : List ℕ} {f : Fault} → Lexed σ s (answer.Fault f) → f .error ≡ UnexpectedEof
+    → (f .place ≡ length s) × (f .after ≡ length s)
+eof-at-end l e = places.eof-at-end l e
+
+-- ---- windows
+
+-- What `parse` answers for a piece of a text it answers for the text, places moved by what stands before the piece, where the
+-- piece decides it: a token that ends before the piece does, or an error other than 10 that leaves the position there.
+pub slice-parses : (before piece rest : List ℕ) {σ : Settings} {pos : ℕ} {r : Parsed}
+    → Stands (before ++ (piece ++ rest)) (length before) → Parses σ piece pos r → Decided piece (r .found) (r .position)
+    → Parses σ (before ++ (piece ++ rest)) (length before + pos) (movedParsed (length before) r)
+slice-parses before piece rest s x d = slices.slice-parses before piece rest s x d
+
+-- So it is with the listing that such an error or the budget stops,
+pub slice-listing : (before piece rest : List ℕ) {σ : Settings} {start budget : ℕ} {list l : List ℕ} {r : Listed}
+    → Stands (before ++ (piece ++ rest)) (length before) → Listing σ piece start budget list r l
+    → DecidedStop piece (r .stop) (r .position)
+    → Listing σ (before ++ (piece ++ rest)) (length before + start) budget list (movedListed (length before) r) l
+slice-listing before piece rest s x d = slices.slice-listing before piece rest s x d
+
+-- and with every token of a walk that ends before the piece does.
+pub slice-walked : (before piece rest : List ℕ) {σ : Settings} {start at : ℕ} {ts : List Piece}
+    → Stands (before ++ (piece ++ rest)) (length before) → Walked σ piece start at ts → at < length piece
+    → Walked σ (before ++ (piece ++ rest)) (length before + start) (length before + at) ts
+slice-walked before piece rest s w h = slices.slice-walked before piece rest s w h
 
 -- ---- one token
 
@@ -111,6 +184,11 @@ read-one x y = reading.read-one x y
 
 pub second-one : {text buffer v w : List ℕ} {a : Reading} → Second text buffer a v → Second text buffer a w → v ≡ w
 second-one x y = reading.second-one x y
+
+-- The second call returns one part: at one address, with the same bytes. Code can tell nothing else of a slice.
+pub part-one : {text buffer r r′ : RefT (List ℕ)} {a : Reading} → PartFor text buffer a r → PartFor text buffer a r′
+    → (ptr r ≡ ptr r′) × (now r ≡ now r′)
+part-one x y = part.part-one x y
 
 pub reads-sign-one : {text : List ℕ} {token : Token} {a b : IntegerSign}
     → ReadsSign text token a → ReadsSign text token b → a ≡ b

@@ -1,5 +1,7 @@
 // What users link: every public call (docs/PROMISES.md), and the calls exported to C. A call for C puts its answer into
 // an array of words; include/thallusweb.h explains each word.
+ghost use mathlib.Core.Path.{_≡_};
+ghost use Rattle.c_words.specs.Words.{wordsVersion};
 ghost use Rattle.c_asked.specs.Asked.{settingsOf};
 ghost use Rattle.c_spots.specs.Spots.{PartWords, MovedWords};
 ghost use Rattle.thallusweb.specs.Promises.{Utf8Checked, ParsedWords, AnnotatedWords};
@@ -25,6 +27,14 @@ pub use read_text::id;
 pub use read_text::src;
 pub use read_text::string;
 pub use utf8_check::check as check_utf8;
+
+// The number of the words and constants of include/thallusweb.h, which is its THALLUSWEB_VERSION.
+#[no_mangle]
+pub extern "C" fn thallusweb_version() -> u32
+    ensures { λ r. ⌜ r ≡ wordsVersion ⌝ }
+{
+    c_words::version()
+}
 
 // Whether the text is UTF-8: 0, or 2 with valid-up-to and error length.
 #[no_mangle]

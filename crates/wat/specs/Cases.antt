@@ -67,9 +67,6 @@ number refusal.NotThatKind = (31, [])
 number refusal.BufferTooShort = (32, [])
 number refusal.NoMessage = (34, [])
 
--- the numbers of a listing that stops for want of room, and of a refused move of the place counter; no `Refusal` is one
+-- the number of a listing that stops for want of room; no `Refusal` is that
 abbrev pub listFull : ℕ
 listFull = 33
-
-abbrev pub counterFull : ℕ
-counterFull = 35

@@ -8,8 +8,9 @@ use lib.Seq.{drop-drop}
 use Rattle.wat.specs.declared.{TokenKind.TokenKind, Fault.Fault}
 use Rattle.wat.specs.declared.Answer.the-variants as answer
 use Rattle.wat.specs.declared.Settings.{Settings}
-use Rattle.wat.specs.Lexing.{Longest, Lexed}
+use Rattle.wat.specs.Lexing.{Lexed}
 use Rattle.wat.specs.Division.{Piece, lengths, Divided}
+use Rattle.wat.specs.Whole.{joined, Some, Longests, Division}
 use Rattle.wat.proofs.Basics.{differ}
 use Rattle.wat.proofs.Unique.{tok-some, lexed-one}
 
@@ -34,10 +35,6 @@ divided-length {s = s} (Divided.more {t = t} l r) = let i = divided-length r in 
     omega (arith, length-drop (t .len) s)
 
 -- none is empty
-abbrev pub Some : List Piece → Type 0
-Some [] = Unit {0}
-Some (t ∷ ts) = (0 < t .len) × Some ts
-
 pub divided-some : {σ : Settings} {s rest : List ℕ} {ts : List Piece} → Divided σ s ts rest → Some ts
 divided-some Divided.none = tt
 divided-some (Divided.more l r) = (token-size l .0, divided-some r)
@@ -92,33 +89,15 @@ ended-one (Divided.more {t = t} {ts = ts} l r) p (Divided.more {t = t′} {ts = 
 
 -- ---- one division
 
--- the bytes of the tokens, one after the other
-abbrev pub joined : List ℕ → List Piece → List ℕ
-joined s [] = []
-joined s (t ∷ ts) = take (t .len) s ++ joined (drop (t .len) s) ts
-
 pub divided-joined : {σ : Settings} {s rest : List ℕ} {ts : List Piece} → Divided σ s ts rest → joined s ts ++ rest ≡ s
 divided-joined Divided.none = refl
 divided-joined {s = s} {rest = rest} (Divided.more {t = t} {ts = ts} l r) =
     append-assoc (take (t .len) s) (joined (drop (t .len) s) ts) rest
     ∙ ap (λ (x : List ℕ). take (t .len) s ++ x) (divided-joined r) ∙ take-append-drop (t .len) s
 
--- each token is the longest start of what is left that is a token of any kind
-abbrev pub Longests : List ℕ → List Piece → Type 0
-Longests s [] = Unit {0}
-Longests s (t ∷ ts) = Longest s (t .kind) (t .len) × Longests (drop (t .len) s) ts
-
 divided-longest : {σ : Settings} {s rest : List ℕ} {ts : List Piece} → Divided σ s ts rest → Longests s ts
 divided-longest Divided.none = tt
 divided-longest (Divided.more (Lexed.token l f) r) = (l, divided-longest r)
-
--- one division: the tokens of a text that is divided to its end are all of its bytes, none is empty, each is the
--- longest, and no other tokens divide it
-pub record Division (σ : Settings) (s : List ℕ) (ts : List Piece) : Type 0 where
-  pub every-byte : joined s ts ≡ s
-  pub none-empty : Some ts
-  pub longest : Longests s ts
-  pub only : (us : List Piece) → Divided σ s us [] → us ≡ ts
 
 pub one-division : {σ : Settings} {s : List ℕ} {ts : List Piece} → Divided σ s ts [] → Division σ s ts
 one-division {s = s} {ts = ts} d =

@@ -8,3 +8,13 @@ pub mod Walks
 pub mod Listings
 pub mod OneCall
 pub mod RunKinds
+pub mod ListingRoom
+pub mod ListingCompose
+pub mod RecordLaws
+pub mod FaultPlaces
+pub mod WalkParts
+pub mod Tails
+pub mod CommentWindows
+pub mod Windows
+pub mod WindowCalls
+pub mod Slices

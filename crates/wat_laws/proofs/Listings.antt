@@ -12,12 +12,13 @@ use Rattle.wat.specs.declared.Stop.the-variants as stop
 use Rattle.wat.specs.Lexing.{Lexed}
 use Rattle.wat.specs.LexModel.{lex}
 use Rattle.wat.specs.Calls.{Stands}
-use Rattle.wat.specs.Division.{Piece, lengths, Divided, Walked, recordSize, records, Stops, Listing}
+use Rattle.wat.specs.Division.{Piece, lengths, Divided, Walked, recordSize, Stops, Listing}
 use Rattle.wat.proofs.Basics.{differ, below}
 use Rattle.wat.proofs.Unique.{lexed-one}
 use Rattle.wat_laws.proofs.Total.{lexed}
 use Rattle.wat_laws.proofs.OneCall.{rejected-one, stands-or-rejected, Entering, entering}
-use Rattle.wat_laws.proofs.Divisions.{token-size, divided-one, divided-next, Division, one-division}
+use Rattle.wat.specs.Whole.{Whole}
+use Rattle.wat_laws.proofs.Divisions.{token-size, divided-one, divided-next, one-division}
 use Rattle.wat_laws.proofs.Walks.{walked-start, walked-more, walked-end}
 
 -- ---- one answer
@@ -159,14 +160,6 @@ lists-all σ text start budget list = go (entering text start)
         (_, _, Listing.lists s (h .walked) (h .few) (h .fits) (h .stops))
 
 -- ---- a text that the listing carries from byte 0 to its end
-
--- its tokens are the one division of the text, as many as were counted, and the list has their records
-pub record Whole (σ : Settings) (text : List ℕ) (list : List ℕ) (r : Listed) (l : List ℕ) : Type 0 where
-  pub tokens : List Piece
-  pub divided : Divided σ text tokens []
-  pub division : Division σ text tokens
-  pub counted : r .count ≡ length tokens
-  pub recorded : l ≡ records text tokens ++ drop (recordSize * length tokens) list
 
 end-at : {σ : Settings} {text : List ℕ} {budget room n at p : ℕ} {why : Stop} → Stops σ text budget room n at why p
     → why ≡ stop.End → at ≡ length text

@@ -6,4 +6,5 @@ pub mod OneReading
 pub mod ValueLengths
 pub mod ValueLaws
 pub mod ReadingLaws
+pub mod Signs
 pub mod Readable

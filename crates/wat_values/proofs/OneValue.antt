@@ -73,7 +73,7 @@ name-one a b = names-one a b refl
 -- ---- numbers
 
 -- a sign and what follows it
-signed-one : {sign sign′ : Sign} {u u′ s s′ : List ℕ} → Signed sign u → Signed sign′ u′ → Plain s → Plain s′
+pub signed-one : {sign sign′ : Sign} {u u′ s s′ : List ℕ} → Signed sign u → Signed sign′ u′ → Plain s → Plain s′
     → u ++ s ≡ u′ ++ s′ → (sign ≡ sign′) × (s ≡ s′)
 signed-one a b p q e =
     (sym (sign-passed a p) ∙ ap sign-of e ∙ sign-passed b q, sym (after-passed a p) ∙ ap after-sign e ∙ after-passed b q)

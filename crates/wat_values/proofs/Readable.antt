@@ -22,68 +22,17 @@ use Rattle.wat.specs.Division.{Piece, lengths, Listing}
 use Rattle.wat_values.specs.Values.{Reader, Takes, Value, part, copy, absent, refused, Reads}
 use Rattle.wat_values.specs.Names.{Misnamed}
 use Rattle.wat_values.specs.Reading.{There, own, needs, found, Handed, Read, Second}
+use Rattle.wat_values.specs.Readable.{bytesOf, filled, Yields, moved, Readable, HasSign, SignRead, Passes}
 use Rattle.wat.proofs.Basics.{differ}
-use Rattle.wat_laws.proofs.Listings.{Whole, listed-whole}
+use Rattle.wat_laws.proofs.Listings.{listed-whole}
 use Rattle.wat_values.proofs.OneValue.{reads-one}
-use Rattle.wat_values.proofs.SomeValue.{reads as reads-some}
+use Rattle.wat_values.proofs.SomeValue.{made, reads as reads-some}
+use Rattle.wat_values.proofs.Signs.{sign-one, sign-found}
 use Rattle.wat_values.proofs.OneReading.{read-one}
 use Rattle.wat_values.proofs.ValueLengths.{needs-short}
 use Rattle.wat_values.proofs.ValueLaws.{Within, within}
 use Rattle.wat_values.proofs.ReadingLaws.{at-piece, is-token, token-long, is-there, is-alone, listed-stands, copy-taken}
 use Rattle.wat_values.proofs.ReadingLaws.{part-taken, refusal}
-
--- ---- the statement
-
--- the bytes of a value: those of the text or of the copy, and none where it is absent or refused
-abbrev pub bytesOf : Value → List ℕ
-bytesOf (part n v) = v
-bytesOf (copy v) = v
-bytesOf absent = []
-bytesOf (refused v e) = []
-
--- a buffer after a value was copied to its front
-abbrev pub filled : Value → List ℕ → List ℕ
-filled v buffer = needs v ++ drop (length (needs v)) buffer
-
--- the reader's two calls yield the value v of the token
-pub record Yields (reader : Reader) (text : List ℕ) (token : Token) (v : Value) (buffer : List ℕ) : Type 0 where
-  -- the first call answers where the value is, and copies it where it is a copy
-  pub answers : Read reader text token buffer (found (token .offset) v) (filled v buffer)
-  -- it has no other answer, and leaves no other buffer
-  pub only : (a : Reading) (b : List ℕ) → Read reader text token buffer a b
-      → (a ≡ found (token .offset) v) × (b ≡ filled v buffer)
-  -- the second call, given that answer, hands over the value's bytes
-  pub hands : Second text (filled v buffer) (found (token .offset) v) (bytesOf v)
-
--- the token, with the offset 0
-abbrev pub moved : Token → Token
-moved token = record { kind = token .kind; offset = 0; len = token .len }
-
--- the reader can read the token
-pub record Readable (reader : Reader) (text : List ℕ) (token : Token) : Type 0 where
-  -- the definitions give the token's own bytes a value, and no other
-  pub value : Value
-  pub reads : Reads reader (token .kind) (own text token) value
-  pub one : (v : Value) → Reads reader (token .kind) (own text token) v → v ≡ value
-  -- with each buffer that is no shorter than the token, the calls yield it
-  pub there : (buffer : List ℕ) → token .len ≤ length buffer → Yields reader text token value buffer
-  -- and they yield the same where the text is the token's own bytes and nothing else
-  pub alone : (buffer : List ℕ) → token .len ≤ length buffer → Yields reader (own text token) (moved token) value buffer
-  -- the answer is a refusal exactly where the name is empty (23, 24) or not UTF-8 (22), and stands at the token's offset:
-  -- none is 1 to 4, 30, 31 or 32
-  pub refuses : (r : Refusal) (p : ℕ)
-      → (found (token .offset) value ≡ Refused r p)
-      ↔ ((e : LexError) × (r ≡ Lexical e) × (p ≡ token .offset) × Misnamed reader (own text token) e)
-
--- a text passes, with the report r and the list l afterwards
-pub record Passes (σ : Settings) (text list : List ℕ) (r : Listed) (l : List ℕ) : Type 0 where
-  -- it is divided end to end, in one way only, into as many tokens as were counted, and the list has their records
-  pub whole : Whole σ text list r l
-  -- each of these tokens, whose offset is the lengths before it, can be read by each reader that takes its kind
-  pub readable : (us vs : List Piece) (t : Piece) → whole .tokens ≡ us ++ (t ∷ vs) → (reader : Reader) → Takes reader (t .kind)
-      → Readable reader text (record { kind = t .kind; offset = lengths us; len = t .len })
-
--- ---- the proof
 
 hands-over : (text : List ℕ) (token : Token) (v : Value) (w buffer : List ℕ) → own text token ≡ w
     → token .offset ≤ length text → Within w v
@@ -124,6 +73,19 @@ token-readable {text = text} token start g l takes =
       refuses = refusal (token .offset) (v .1);
     }
 
+token-signed : {σ : Settings} {text : List ℕ} (token : Token) → Stands text 0 → WellFormed (drop (token .offset) text)
+    → Lexed σ (drop (token .offset) text) (answer.Token (token .kind) (token .len)) → HasSign (token .kind)
+    → SignRead text token
+token-signed {text = text} token start g l h =
+    let f = sign-found h (made (is-token l)) in
+    record {
+      sign = f .0;
+      has = f .1;
+      one = λ s x. sign-one x (f .1);
+      there = f .2 text token (is-there token start g l) refl;
+      alone = f .2 (own text token) (moved token) (is-alone token start g l) refl;
+    }
+
 -- what passes can be read: each text that the listing carries from byte 0 to its end
 pub passes-readable : {σ : Settings} {text : List ℕ} {budget : ℕ} {list l : List ℕ} {r : Listed}
     → Listing σ text 0 budget list r l → r .stop ≡ stop.End → Passes σ text list r l
@@ -135,4 +97,7 @@ passes-readable x e =
       readable = λ us vs t q reader takes.
           let p = at-piece (start .between) (whole .divided) us vs t q in
           token-readable (record { kind = t .kind; offset = lengths us; len = t .len }) start (p .0) (p .1) takes;
+      signed = λ us vs t q h.
+          let p = at-piece (start .between) (whole .divided) us vs t q in
+          token-signed (record { kind = t .kind; offset = lengths us; len = t .len }) start (p .0) (p .1) h;
     }

@@ -22,7 +22,8 @@ use Rattle.wat.specs.Utf8.{WellFormed, Says, scalar, table}
 use Rattle.wat.specs.Utf8Model.{front, scan, checked}
 use Rattle.wat.specs.Chars.{idchar, letter, space, newline, punctuation, confusing, control, isScalar}
 use Rattle.wat.specs.Strings.{escapes, Elems, Str}
-use Rattle.wat.specs.StringModel.{peek, hexOf, digits, encode, closeBy, numberBy, firstBy, braceBy, secondBy, escapeBy, hides, readBy}
+use Rattle.wat.specs.StringModel.{peek, hexOf, digits, encode, closeBy, numberBy}
+use Rattle.wat.specs.StringModel.{firstBy, braceBy, secondBy, escapeBy, hides, readBy}
 use Rattle.wat.specs.StringModel.{read}
 use Rattle.wat.specs.RunModel.{body, walk}
 use Rattle.wat.specs.CommentModel.{opens, ends}
@@ -31,8 +32,11 @@ use Rattle.wat.specs.Lexing.{Lexed}
 use Rattle.wat_values.specs.Values.{Reader, Value, part, absent, refused, copyOrPart, bare, Name, Split, Reads}
 use Rattle.wat_values.specs.declared.FloatPart.the-variants as the
 use Rattle.wat_values.specs.Values as reader
+use Rattle.wat.specs.Division.{Divided}
+use Rattle.wat.specs.Whole.{Division}
 use Rattle.wat.proofs.Utf8Laws.{checked-says}
 use Rattle.wat_laws.proofs.Total.{lexed}
+use Rattle.wat_laws.proofs.Divisions.{one-division}
 
 abbrev All : {A : Type 0} → (A → Type 0) → List A → Type 0
 All P [] = Unit {0}
@@ -78,10 +82,10 @@ rows =
     ∷ row "\"\\u{1_}\"" (Fault (fault LoneUnderscore 5 6))
     ∷ []
 
--- what the definitions say of a row
+-- what the definitions say of a row: what readers leave of its token, or that no tokens are its one division
 abbrev Leaves : Answer → List ℕ → List (Reader × Value) → Type 0
 Leaves (Token k n) w rs = All (λ r. Reads (r .0) k w (r .1)) rs
-Leaves End w rs = Unit {0}
+Leaves End w rs = Division plain w []
 Leaves (Fault f) w rs = Unit {0}
 
 abbrev Holds : Row → Type 0
@@ -130,7 +134,10 @@ nothing-read = (Reads.an-id (Name.quoted-nothing (Str.quoted Elems.none)), tt)
 
 rows-read : All (λ r. Leaves (r .answer) (r .text) (r .reads)) rows
 unfolding rows
-rows-read = (tt, (tt, (tt, (tt, (tt, (dot-reads, (power-reads, (tt, (tt, (tt, (tt, (nothing-read, (tt, (tt, tt))))))))))))))
+rows-read = (
+  one-division Divided.none,
+  (tt, (tt, (tt, (tt, (dot-reads, (power-reads, (tt, (tt, (tt, (tt, (nothing-read, (tt, (tt, tt))))))))))))),
+)
 
 -- each row holds
 by-model : (rs : List Row) → map (λ (r : Row). lex plain (r .text)) rs ≡ map (λ (r : Row). r .answer) rs

@@ -18,7 +18,7 @@ use Rattle.wat.specs.Bytes.{byte, has, Each}
 use Rattle.wat.specs.Settings.{lenient}
 use Rattle.wat.specs.Utf8.{Says}
 use Rattle.wat.specs.Utf8Model.{checked}
-use Rattle.wat.specs.Numbers.{nan-colon, Digits, Signed, Fraction, Exponent, IsInteger, IsFloat, Literal}
+use Rattle.wat.specs.Numbers.{inf, nan, nan-colon, negative, Digits, Signed, Fraction, Exponent, IsInteger, IsFloat, Literal}
 use Rattle.wat.specs.Chars.{idchar}
 use Rattle.wat.specs.Strings.{Str}
 use Rattle.wat.specs.Tokens.{Proper, Tok, numberKind}
@@ -35,18 +35,19 @@ Quoted w = (v : List ℕ) × Str lenient w v
 abbrev pub Sigil : ℕ → List ℕ → Type 0
 Sigil x w = (t : List ℕ) × (w ≡ x ∷ t) × (Each idchar true t ⊎ Quoted t)
 
-pub record NanParts (w : List ℕ) : Type 0 where
+-- a sign, which is a minus or not as n says, and a word
+pub record SignedWord (n : Bool) (word w : List ℕ) : Type 0 where
   pub sign : Sign
   pub u : List ℕ
-  pub s : List ℕ
   pub signed : Signed sign u
-  pub number : Digits true s
-  pub is : w ≡ u ++ (nan-colon ++ s)
+  pub minus : n ≡ negative sign
+  pub is : w ≡ u ++ word
 
 abbrev pub MadeFloat : FloatKind → List ℕ → Type 0
-MadeFloat (float-kind.Inf n) w = Unit {0}
-MadeFloat (float-kind.Nan n) w = Unit {0}
-MadeFloat (float-kind.NanVal n u) w = NanParts w × (u ≡ has (byte "_") w)
+MadeFloat (float-kind.Inf n) w = SignedWord n inf w
+MadeFloat (float-kind.Nan n) w = SignedWord n nan w
+MadeFloat (float-kind.NanVal n u) w =
+    ((s : List ℕ) × Digits true s × SignedWord n (nan-colon ++ s) w) × (u ≡ has (byte "_") w)
 MadeFloat (float-kind.Normal u h) w = IsFloat h w × (u ≡ has (byte "_") w)
 
 abbrev pub Made : TokenKind → List ℕ → Type 0
@@ -72,10 +73,10 @@ payload-gaps s Signed.minus = refl
 number-made : {w : List ℕ} {m : Number} → Literal w m → Made (numberKind m) w
 number-made (Literal.an-integer x) = (x, refl)
 number-made (Literal.a-float x n) = (x, refl)
-number-made (Literal.an-inf g) = tt
-number-made (Literal.a-nan g) = tt
-number-made (Literal.a-payload {sign = sign} {u = u} {s = s} g d) =
-    (record { sign = sign; u = u; s = s; signed = g; number = d; is = refl }, payload-gaps s g)
+number-made (Literal.an-inf g) = record { sign = _; u = _; signed = g; minus = refl; is = refl }
+number-made (Literal.a-nan g) = record { sign = _; u = _; signed = g; minus = refl; is = refl }
+number-made (Literal.a-payload {s = s} g d) =
+    ((s, d, record { sign = _; u = _; signed = g; minus = refl; is = refl }), payload-gaps s g)
 
 pub made : {k : TokenKind} {w : List ℕ} → Tok k w → Made k w
 made (Tok.proper (Proper.line-comment l)) = tt
@@ -128,7 +129,7 @@ float-value p (float-kind.Nan n) w m = (_, Reads.of-nan)
 float-value the.Integral (float-kind.NanVal n u) w m = (_, Reads.of-payload (λ (q : the.Integral ≡ the.Payload). differ (cc)))
 float-value the.Fraction (float-kind.NanVal n u) w m = (_, Reads.of-payload (λ (q : the.Fraction ≡ the.Payload). differ (cc)))
 float-value the.Exponent (float-kind.NanVal n u) w m = (_, Reads.of-payload (λ (q : the.Exponent ≡ the.Payload). differ (cc)))
-float-value the.Payload (float-kind.NanVal n u) w m = (_, Reads.a-payload (m .0 .signed) (m .0 .number) (m .0 .is))
+float-value the.Payload (float-kind.NanVal n u) w m = let x = m .0 .2 in (_, Reads.a-payload (x .signed) (m .0 .1) (x .is))
 float-value the.Integral (float-kind.Normal c h) w m = (_, Reads.an-integral (float-split (m .0) .5))
 float-value the.Fraction (float-kind.Normal c h) w m = let x = float-split (m .0) .5 in fraction-value (x .after) x
 float-value the.Exponent (float-kind.Normal c h) w m = let x = float-split (m .0) .5 in exponent-value (x .power) x

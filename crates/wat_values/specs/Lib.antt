@@ -1,3 +1,4 @@
 pub mod Values
 pub mod Names
 pub mod Reading
+pub mod Readable

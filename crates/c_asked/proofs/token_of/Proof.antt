@@ -1,7 +1,8 @@
 -- `c_asked::token_of` meets its contract: a token's kind has a number of two bytes, and its length is of four. Assumes nothing.
 use mathlib.Core.Path.{refl}
 use native.Mathlib.Omega.{arith}
-use Rattle.codes.proofs.NumberLaws.{kind-small, named-kind, no-kind}
+use Rattle.wat.proofs.KindNumbers.{kind-small}
+use Rattle.codes.proofs.NumberLaws.{named-kind, no-kind}
 use Rattle.c_asked.specs.Asked.{NoToken, Asks}
 use borrow.Author.Needs.{needs}
 use Rattle.c_asked.proofs.token_of.Statement.{statement}

@@ -30,7 +30,7 @@ returns-3 : tie.Need-returns-3
 returns-3 c = c .refused-words .ensures ∙ sym (ap stopWords (c .before .before .s .given .1))
 
 returns-4 : tie.Need-returns-4
-returns-4 c = search needs
+returns-4 c = sym (ap stopWords (c .enum-told3 .given .1))
 
 pub stop-words-spec : {M : Type 1} → statement M
 stop-words-spec =

@@ -1,5 +1,6 @@
 -- Each answer's own part. Assumes nothing.
-use Rattle.read_second.proofs.PartLaws.{second-text, second-buffer, second-absent, second-refused}
+use Rattle.read_second.specs.Parts.{PartFor}
+use Rattle.read_second.proofs.PartLaws.{borrowed, promised}
 use borrow.Author.Needs.{needs}
 use Rattle.read_second.proofs.part.Statement.{statement}
 use Rattle.read_second.proofs.part.Tie as tie
@@ -41,16 +42,16 @@ part-result-end-2 : tie.Need-part-result-end-2
 part-result-end-2 c = search needs
 
 returns : tie.Need-returns
-returns c = second-text (c .before .before .reading .given .1) (c .sub .ensures)
+returns c = promised (c .before .before .reading .given .1) (PartFor.of-text (c .sub .ensures))
 
 returns-2 : tie.Need-returns-2
-returns-2 c = second-buffer (c .before .before .reading2 .given .1) (c .sub2 .ensures)
+returns-2 c = promised (c .before .before .reading2 .given .1) (PartFor.of-buffer (c .sub2 .ensures))
 
 returns-3 : tie.Need-returns-3
-returns-3 c = second-refused (c .before .enum-told .given .1)
+returns-3 c = promised (c .before .enum-told .given .1) (PartFor.refused (borrowed _ 0 0 _))
 
 returns-4 : tie.Need-returns-4
-returns-4 c = second-absent (c .before .enum-told2 .given .1)
+returns-4 c = promised (c .before .enum-told2 .given .1) (PartFor.absent (borrowed _ 0 0 _))
 
 pub part-spec : {M : Type 1} → statement M
 part-spec =

@@ -1,7 +1,7 @@
 -- The part lies in the slice, or is none. Assumes nothing.
 use native.Mathlib.Omega.{arith}
-use native.Mathlib.Nat.{add-sub-cancel-left}
 use Rattle.read_second.specs.Parts.{PartOf}
+use Rattle.read_second.proofs.PartLaws.{borrowed}
 use borrow.Author.Needs.{needs}
 use Rattle.read_second.proofs.sub.Statement.{statement}
 use Rattle.read_second.proofs.sub.Tie as tie
@@ -16,7 +16,7 @@ part-result-end : tie.Need-part-result-end
 part-result-end c = search needs
 
 returns : tie.Need-returns
-returns c = PartOf.outside (omega arith)
+returns c = PartOf.outside (omega arith) (borrowed _ 0 0 _)
 
 sub-if2 : tie.Need-sub-if2
 sub-if2 c = search needs
@@ -31,7 +31,7 @@ part-result-end-2 : tie.Need-part-result-end-2
 part-result-end-2 c = search needs
 
 returns-2 : tie.Need-returns-2
-returns-2 c = PartOf.outside (omega arith)
+returns-2 c = PartOf.outside (omega arith) (borrowed _ 0 0 _)
 
 add-end : tie.Need-add-end
 add-end c = search needs
@@ -46,7 +46,7 @@ part-result-end-3 : tie.Need-part-result-end-3
 part-result-end-3 c = search needs
 
 returns-3 : tie.Need-returns-3
-returns-3 c = rw add-sub-cancel-left (PartOf.inside (omega arith))
+returns-3 c = PartOf.inside (omega arith) (borrowed _ _ _ _)
 
 pub sub-spec : {M : Type 1} → statement M
 sub-spec =

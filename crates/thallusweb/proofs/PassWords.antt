@@ -1,0 +1,199 @@
+-- What passes can be read, for callers from C: what `passes-readable` says of tokens, said of the words that the records of
+-- a list decode to. Assumes nothing.
+use Prim.Native.Nat.{ℕ, _<_}
+use mathlib.Core.Path.{_≡_, refl, sym, ap, _∙_, subst}
+use mathlib.Core.Logic.{_↔_}
+use mathlib.Core.List.{List, [], _∷_, _++_}
+use mathlib.Core.Option.{some}
+use native.Mathlib.Omega.{arith}
+use lib.ListN.{length, getD}
+use Rattle.wat.specs.declared.{TokenKind.TokenKind, LexError.LexError, Settings.Settings, Token.Token, Refusal.Refusal}
+use Rattle.wat.specs.declared.{Refusal.the-variants.Lexical, Stop.Stop, Listed.Listed}
+use Rattle.wat.specs.declared.Stop.the-variants as stop
+use Rattle.wat_values.specs.declared.Reading.{Reading}
+use Rattle.wat_values.specs.declared.Reading.the-variants as reading
+use Rattle.wat_values.specs.declared.IntegerSign.the-variants as integer
+use Rattle.wat_values.specs.declared.FloatSign.the-variants as float
+use Rattle.wat.specs.Cases.{kindNumber}
+use Rattle.wat.specs.Numbers.{negative}
+use Rattle.wat.specs.Division.{lengths, Listing}
+use Rattle.wat_laws.specs.Records.{kindAt, tokenWords}
+use Rattle.wat_values.specs.Values.{Reader, Takes, Value, Reads}
+use Rattle.wat_values.specs.Names.{Misnamed}
+use Rattle.wat_values.specs.Reading.{own, found, Second}
+use Rattle.wat_values.specs.Readable.{bytesOf, filled, Yields, Readable, SignOf, HasSign, Signs, SignRead, Passes}
+use Rattle.c_words.specs.Words.{refusedWords, stopWords}
+use Rattle.c_read_words.specs.Words.{readingWords}
+use Rattle.c_spots.specs.Spots.{PartWords}
+use Rattle.c_asked.specs.Asked.{Denotes}
+use Rattle.read_call.specs.ByNumber.{readers, nth, ReadBy}
+use Rattle.thallusweb.specs.Promises.{ListedWords, ReadWords, IntegerSignWords, FloatSignWords}
+use Rattle.thallusweb.specs.ReadableWords.{ownBytes, PartBytes, foundIn, YieldsWords, ReadableWords, SignsWords}
+use Rattle.thallusweb.specs.ReadableWords.{SignReadWords, PassesWords}
+use Rattle.wat_laws.proofs.RecordLaws.{SaidOf, whole-decode}
+use Rattle.wat_values.proofs.ReadingLaws.{listed-stands}
+use Rattle.wat_values.proofs.Readable.{passes-readable}
+use Rattle.wat.proofs.KindNumbers.{injective}
+use Rattle.c_spots.proofs.SpotLaws.{part-words-one}
+use Rattle.thallusweb.proofs.OneWords.{read-words-one, integer-sign-words-one, float-sign-words-one}
+
+-- ---- the second call
+
+-- the part call's words for an answer's words, and the bytes that they name
+second-words : {text buffer v : List ℕ} (a : Reading) → Second text buffer a v
+    → (p : List ℕ) × PartWords text buffer (readingWords a) p × PartBytes text buffer p v
+second-words a (Second.in-text h) = (_, PartWords.in-text refl h, PartBytes.of-text)
+second-words a (Second.in-buffer h) = (_, PartWords.in-buffer refl h, PartBytes.of-buffer)
+second-words reading.Absent (Second.none f g) = (
+  _,
+  PartWords.none (λ (e : _≡_ {A = ℕ} 0 1). absurd (omega arith))
+      (λ (e : _≡_ {A = ℕ} 0 3). absurd (omega arith)),
+  PartBytes.none,
+)
+second-words (reading.Refused r p) (Second.none f g) = (
+  _,
+  PartWords.none (λ (e : _≡_ {A = ℕ} 2 1). absurd (omega arith))
+      (λ (e : _≡_ {A = ℕ} 2 3). absurd (omega arith)),
+  PartBytes.none,
+)
+second-words (reading.Text s l) (Second.none f g) =
+    (_, PartWords.none (λ e. f s l refl) (λ (e : _≡_ {A = ℕ} 1 3). absurd (omega arith)), PartBytes.none)
+second-words (reading.Buffer s l) (Second.none f g) =
+    (_, PartWords.none (λ (e : _≡_ {A = ℕ} 3 1). absurd (omega arith)) (λ e. g s l refl), PartBytes.none)
+
+-- an answer whose first word is 2 is a refusal
+refused-words : (a : Reading) → getD (readingWords a) 0 0 ≡ 2
+    → (r : Refusal) × (p : ℕ) × (a ≡ reading.Refused r p) × (readingWords a ≡ refusedWords r p)
+refused-words reading.Absent e = absurd (omega arith)
+refused-words (reading.Text s l) e = absurd (omega arith)
+refused-words (reading.Refused r p) e = (r, p, refl, refl)
+refused-words (reading.Buffer s l) e = absurd (omega arith)
+
+-- ---- a token by its words
+
+module _ (text w : List ℕ) {t : Token} (d : Denotes w t) where
+  same-bytes : own text t ≡ ownBytes text w
+  same-bytes = let a = d .stands in let b = d .long in cc
+
+  same-found : (v : Value) → readingWords (found (t .offset) v) ≡ foundIn w v
+  same-found v = ap (λ (o : ℕ). readingWords (found o v)) (d .stands)
+
+  yields-words : {n : ℕ} {reader : Reader} {v : Value} {buffer : List ℕ} → nth readers n ≡ some reader
+      → Yields reader text t v buffer → YieldsWords n text w v buffer
+  yields-words {n} {reader} {v} {buffer} e y =
+      let f = filled v buffer in
+      let a : ReadWords n text w buffer (foundIn w v) f =
+      subst (λ (x : List ℕ). ReadWords n text w buffer x f) (same-found v) (ReadWords.read d (ReadBy.by e (y .answers))) in
+      let s = second-words (found (t .offset) v) (y .hands) in
+      let p : PartWords text f (foundIn w v) (s .0) = subst (λ (x : List ℕ). PartWords text f x (s .0)) (same-found v) (s .1) in
+      record {
+        answers = a;
+        only = λ x b z. read-words-one z a;
+        part = s .0;
+        parts = p;
+        only-part = λ q z. part-words-one z p;
+        bytes = s .2;
+      }
+
+  readable-words : {n : ℕ} {reader : Reader} → nth readers n ≡ some reader → Readable reader text t
+      → ReadableWords n reader (t .kind) text w
+  readable-words {n} {reader} e r =
+      let v = r .value in
+      let o = d .stands in
+      record {
+        value = v;
+        reads = subst (λ (x : List ℕ). Reads reader (t .kind) x v) same-bytes (r .reads);
+        one = λ u x. r .one u (subst (λ (y : List ℕ). Reads reader (t .kind) y u) (sym same-bytes) x);
+        yields = λ buffer h. yields-words e (r .there buffer (omega (arith, d .long)));
+        refuses = (to, from);
+      }
+    where
+      Refuses : Type 0
+      Refuses = (e : LexError) × Misnamed reader (ownBytes text w) e
+          × (foundIn w (r .value) ≡ refusedWords (Lexical e) (getD w 1 0))
+
+      to : getD (foundIn w (r .value)) 0 0 ≡ 2 → Refuses
+      to q =
+          let x = refused-words (found (t .offset) (r .value)) (ap (λ (z : List ℕ). getD z 0 0) (same-found (r .value)) ∙ q) in
+          let m = r .refuses (x .0) (x .1) .0 (x .2) in
+          let a = m .1 in
+          let b = m .2 in
+          let c = d .stands in (
+            m .0,
+            subst (λ (z : List ℕ). Misnamed reader z (m .0)) same-bytes (m .3),
+            sym (same-found (r .value)) ∙ x .3 ∙ cc,
+          )
+
+      from : Refuses → getD (foundIn w (r .value)) 0 0 ≡ 2
+      from x = ap (λ (z : List ℕ). getD z 0 0) (x .2)
+
+  signs-words : SignRead text t → SignReadWords (t .kind) text w
+  signs-words r = record {
+    sign = r .sign;
+    has = subst (λ (x : List ℕ). SignOf (t .kind) x (r .sign)) same-bytes (r .has);
+    one = λ s x. r .one s (subst (λ (y : List ℕ). SignOf (t .kind) y s) (sym same-bytes) x);
+    signs = go (r .there);
+  }
+    where
+      go : Signs text t (r .sign) → SignsWords (t .kind) text w (r .sign)
+      go (Signs.of-integer e a o) =
+          let x = IntegerSignWords.read (integer.Sign (r .sign)) d a in
+          SignsWords.of-integer e x (λ y z. integer-sign-words-one z x)
+      go (Signs.of-float e a o) =
+          let x = FloatSignWords.read (float.Negative (negative (r .sign))) d a in
+          SignsWords.of-float e x (λ y z. float-sign-words-one z x)
+
+-- ---- a listing's words
+
+ended : (s : Stop) (rest : List ℕ) → getD (stopWords s ++ rest) 0 0 ≡ 0 → s ≡ stop.End
+ended stop.End rest e = refl
+ended stop.Budget rest e = absurd (omega arith)
+ended (stop.Refused r p) rest e = absurd (omega arith)
+ended stop.Full rest e = absurd (omega arith)
+
+counted-word : (s : Stop) (n m : ℕ) → getD (stopWords s ++ (n ∷ m ∷ [])) 5 0 ≡ n
+counted-word stop.End n m = refl
+counted-word stop.Budget n m = refl
+counted-word (stop.Refused r p) n m = refl
+counted-word stop.Full n m = refl
+
+-- the token of a record
+said-denotes : {l : List ℕ} {ts : List _} {i : ℕ} (s : SaidOf l ts i)
+    → Denotes (tokenWords l i) (record { kind = s .token .kind; offset = lengths (s .before); len = s .token .len })
+said-denotes s =
+    let x = s .said in
+    record {
+      named = sym (x .kind-said);
+      stands = sym (x .offset-said);
+      long = sym (x .length-said);
+      fits = omega (arith, x .fits, x .length-said);
+    }
+
+pub passes-words : {σ : Settings} {text list out l : List ℕ} {budget : ℕ} → ListedWords σ text 0 budget list out l
+    → getD out 0 0 ≡ 0 → PassesWords σ text out l
+passes-words {σ} {text} {list} {l = l} (ListedWords.listed {r = r} x) e =
+    let q = ended (r .stop) _ e in
+    let p : Passes σ text list r l = passes-readable x q in
+    let whole = p .whole in
+    let sound = listed-stands x q .sound in
+    let count = counted-word (r .stop) (r .count) (r .position) in
+    record {
+      tokens = whole .tokens;
+      divided = whole .divided;
+      division = whole .division;
+      counted = count ∙ whole .counted;
+      kinds = λ i h. let s = whole-decode sound whole i (omega (arith, count)) in (s .token .kind, sym (s .said .kind-said));
+      readable = λ i h k n′ n reader o takes.
+          let s = whole-decode sound whole i (omega (arith, count)) in
+          let z : s .token .kind ≡ k = injective (s .token .kind) k (sym (s .said .kind-said) ∙ sym n′) in
+          subst (λ (j : TokenKind). ReadableWords n reader j text (tokenWords l i)) z
+          (readable-words text (tokenWords l i) (said-denotes s) o
+          (p .readable (s .before) (s .after) (s .token) (s .parted) reader
+          (subst (λ (j : TokenKind). Takes reader j) (sym z) takes)));
+      signed = λ i h k n′ has.
+          let s = whole-decode sound whole i (omega (arith, count)) in
+          let z : s .token .kind ≡ k = injective (s .token .kind) k (sym (s .said .kind-said) ∙ sym n′) in
+          subst (λ (j : TokenKind). SignReadWords j text (tokenWords l i)) z
+          (signs-words text (tokenWords l i) (said-denotes s)
+          (p .signed (s .before) (s .after) (s .token) (s .parted) (subst HasSign (sym z) has)));
+    }
