@@ -12,6 +12,7 @@
 pub mod lexer;
 pub mod listing;
 pub mod numbers;
+pub mod places;
 pub mod readers;
 pub mod texts;
 pub mod values;

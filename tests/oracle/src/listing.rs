@@ -5,6 +5,14 @@ use crate::{Answer, Fault, Oracle};
 /// The bytes of a record: a length of four and a kind of two, little-endian.
 pub const RECORD: usize = 6;
 
+/// The record of a token.
+pub fn record(kind: u16, len: u32) -> [u8; RECORD] {
+    let mut record = [0; RECORD];
+    record[..4].copy_from_slice(&len.to_le_bytes());
+    record[4..].copy_from_slice(&kind.to_le_bytes());
+    record
+}
+
 /// Why a listing stops.
 #[derive(Clone, Copy, Debug, PartialEq, Eq)]
 pub enum Stop {
@@ -39,11 +47,10 @@ impl Oracle<'_> {
                     break Stop::Fault(fault);
                 }
                 Answer::Token(token) => {
-                    let Some(record) = records.next() else {
+                    let Some(place) = records.next() else {
                         break Stop::Full;
                     };
-                    record[..4].copy_from_slice(&token.len().to_le_bytes());
-                    record[4..].copy_from_slice(&token.kind().to_le_bytes());
+                    place.copy_from_slice(&record(token.kind(), token.len()));
                     count += 1;
                     position = after;
                 }

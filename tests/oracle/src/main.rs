@@ -2,11 +2,10 @@
 
 mod compare;
 mod record;
+mod rows;
 
 use oracle::numbers;
-use oracle::texts::Texts;
 use oracle::{Answer, Oracle, utf8};
-use std::collections::HashSet;
 use std::fmt::Write as _;
 use std::io::{self, Read, Write};
 use std::process::ExitCode;
@@ -24,25 +23,40 @@ oracle: what the Rust original says of texts, in the numbers of docs/RULES.md
   oracle record [--rows N] [--seed S]
       writes N rows of answers (default 7000, seed 1) for the program of crates/replay
 
-  oracle rows lex [--rows N] [--seed S]
-      prints the answers for N different texts of at most 40 bytes (default 20000, seed 1), one to a line:
-      FLAG TEXT end
-      FLAG TEXT token KIND LENGTH
-      FLAG TEXT fault NUMBER DATA DATA PLACE AFTER
-      FLAG is plain or lenient (confusing characters are allowed); TEXT is in hexadecimal, - if empty. TEXT is what is
-      left of a text from a position on: places are counted from there
-
-  oracle rows utf8 [--rows N] [--seed S]
-      prints what std::str::from_utf8 says of N different byte strings, one to a line:
-      BYTES ok
-      BYTES bad VALID-UP-TO ERROR-LENGTH
+  oracle rows WHAT [--rows N] [--seed S]
+      prints N different questions with their answers (default 1000, seed 1), one to a line. Bytes are in hexadecimal,
+      - if there are none; texts have at most 40 bytes. WHAT is one of
+      lex: what lexing says of what is left of a text from a position on; places are counted from there
+          FLAG TEXT end
+          FLAG TEXT token KIND LENGTH
+          FLAG TEXT fault NUMBER DATA DATA PLACE AFTER
+          FLAG is plain or lenient (confusing characters are allowed)
+      utf8: what std::str::from_utf8 says
+          BYTES ok
+          BYTES bad VALID-UP-TO ERROR-LENGTH
+      kinds: the number of every kind, which the original shows as KIND; however large N is
+          KIND is NUMBER
+      errors: the number of an error, which has this NAME in the original
+          NAME DATA DATA is NUMBER
+      messages: the message of the error with that number and data, in a buffer of so many bytes (or 34, or 32)
+          NUMBER DATA DATA ROOM none
+          NUMBER DATA DATA ROOM too-short
+          NUMBER DATA DATA ROOM told MESSAGE
+      places: the place after some bytes (or 35)
+          LINE COLUMN BYTES moved LINE COLUMN
+          LINE COLUMN BYTES full
+      records: the records of a text's tokens up to the first error; or, with no text, of one token of any length
+          TEXT KIND LENGTH KIND LENGTH .. has BYTES
+      readers: what a reader leaves of a token, which stands at an offset and has these bytes
+          READER KIND OFFSET BYTES absent
+          READER KIND OFFSET BYTES part START BYTES
+          READER KIND OFFSET BYTES copy BYTES
+          READER KIND OFFSET BYTES refused NUMBER DATA DATA PLACE COPIED
+          READER KIND OFFSET BYTES other-kind
 ";
 
 /// The longest input that `wat-tokens` takes.
 const MOST: usize = 32_768;
-
-/// The longest text of a row.
-const ROW: usize = 40;
 
 fn main() -> io::Result<ExitCode> {
     let words: Vec<String> = std::env::args().skip(1).collect();
@@ -61,12 +75,10 @@ fn main() -> io::Result<ExitCode> {
             Some((texts, seed)) => Some(compare::tokens(program, texts, seed)?),
             None => None,
         },
-        ["rows", "lex", ref options @ ..] => {
-            rows_and_seed("--rows", 20_000, options).map(|(rows, seed)| lex_rows(rows, seed))
-        }
-        ["rows", "utf8", ref options @ ..] => {
-            rows_and_seed("--rows", 20_000, options).map(|(rows, seed)| utf8_rows(rows, seed))
-        }
+        ["rows", what, ref options @ ..] => match (rows::maker(what), rows_and_seed("--rows", 1_000, options)) {
+            (Some(make), Some((rows, seed))) => Some(make(rows, seed)),
+            _ => None,
+        },
         _ => None,
     };
     match out {
@@ -130,61 +142,4 @@ fn token_lines(oracle: &Oracle, out: &mut String) -> String {
             }
         }
     }
-}
-
-fn lex_rows(rows: usize, seed: u64) -> String {
-    let mut texts = Texts::new(seed);
-    let mut seen = HashSet::new();
-    let mut out = String::new();
-    while seen.len() < rows {
-        let text = texts.text(ROW);
-        let position = if texts.below(4) == 0 { texts.boundary(&text) } else { 0 };
-        let lenient = texts.below(3) == 0;
-        let flag = if lenient { "lenient" } else { "plain" };
-        let left = format!("{flag} {}", hexadecimal(&text.as_bytes()[position..]));
-        if seen.contains(&left) {
-            continue;
-        }
-        let (answer, after) = Oracle::new(&text, lenient).parse(position);
-        let answer = match answer {
-            Answer::End => "end".to_string(),
-            Answer::Token(token) => format!("token {} {}", token.kind(), token.len()),
-            Answer::Fault(fault) => format!(
-                "fault {} {} {} {} {}",
-                fault.number,
-                fault.data[0],
-                fault.data[1],
-                fault.place - position,
-                after - position
-            ),
-        };
-        writeln!(out, "{left} {answer}").expect("a string takes it");
-        seen.insert(left);
-    }
-    out
-}
-
-fn utf8_rows(rows: usize, seed: u64) -> String {
-    let mut texts = Texts::new(seed);
-    let mut seen = HashSet::new();
-    let mut out = String::new();
-    while seen.len() < rows {
-        let bytes = texts.bytes(ROW);
-        let shown = hexadecimal(&bytes);
-        if seen.insert(bytes.clone()) {
-            match utf8(&bytes) {
-                Ok(_) => writeln!(out, "{shown} ok"),
-                Err([valid, error]) => writeln!(out, "{shown} bad {valid} {error}"),
-            }
-            .expect("a string takes it");
-        }
-    }
-    out
-}
-
-fn hexadecimal(bytes: &[u8]) -> String {
-    if bytes.is_empty() {
-        return "-".to_string();
-    }
-    bytes.iter().map(|b| format!("{b:02x}")).collect()
 }

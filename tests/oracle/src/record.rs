@@ -241,7 +241,7 @@ impl<'a> Reading<'a> {
 }
 
 /// Whether an answer is to be recorded: none is more than `most` times.
-fn wanted(seen: &mut BTreeMap<[usize; 2], usize>, answer: [usize; 2], most: usize) -> bool {
+pub fn wanted(seen: &mut BTreeMap<[usize; 2], usize>, answer: [usize; 2], most: usize) -> bool {
     let count = seen.entry(answer).or_default();
     *count += 1;
     *count <= most

@@ -21,6 +21,9 @@ const ESCAPED: &[&str] = &[
 const LEADS: [u8; 15] = [0x7f, 0xc1, 0xc2, 0xdf, 0xe0, 0xe1, 0xec, 0xed, 0xee, 0xef, 0xf0, 0xf1, 0xf3, 0xf4, 0xf5];
 const TRAILS: [u8; 8] = [0x7f, 0x80, 0x8f, 0x90, 0x9f, 0xa0, 0xbf, 0xc0];
 
+/// Numbers between which some rule or some number of bytes draws a line.
+const LIMITS: [u32; 12] = [0, 0x10, 0x20, 0x27, 0x5c, 0x7f, 0x100, 0xd800, 0xe000, 0x1_0000, 0x11_0000, 0x100_0000];
+
 /// A generator of texts.
 pub struct Texts {
     state: u64,
@@ -82,6 +85,20 @@ impl Texts {
         (self.next() % n as u64) as usize
     }
 
+    /// A number of 32 bits: any, one of fewer bits, or one near a limit.
+    pub fn any_number(&mut self) -> u32 {
+        match self.below(3) {
+            0 => self.next() as u32,
+            1 => self.next() as u32 >> self.below(32),
+            _ => self.pick(&LIMITS).wrapping_add(self.below(4) as u32).wrapping_sub(2),
+        }
+    }
+
+    /// One of the nine confusing characters, or a neighbour.
+    pub fn near_confusing(&mut self) -> char {
+        self.char_of(CONFUSING)
+    }
+
     // splitmix64
     fn next(&mut self) -> u64 {
         self.state = self.state.wrapping_add(0x9e37_79b9_7f4a_7c15);
@@ -103,7 +120,7 @@ impl Texts {
     }
 
     /// A character, those of one to four bytes alike.
-    fn any_char(&mut self) -> char {
+    pub fn any_char(&mut self) -> char {
         let limit = self.pick(&[0x80, 0x800, 0x1_0000, 0x11_0000]);
         char::from_u32(self.below(limit) as u32).unwrap_or('\u{fffd}')
     }

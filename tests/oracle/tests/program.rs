@@ -1,5 +1,6 @@
 //! The program: its output for `tokens` is that of `wat-tokens` (docs/RULES.md, 15).
 
+use std::collections::HashSet;
 use std::io::Write;
 use std::process::{Command, Stdio};
 
@@ -105,11 +106,20 @@ fn long_input() {
 
 #[test]
 fn rows() {
-    let (status, lex) = run(&["rows", "lex", "--rows", "50", "--seed", "7"], b"");
-    assert_eq!((status, lex.lines().count()), (Some(0), 50));
-    let (status, utf8) = run(&["rows", "utf8", "--rows", "50", "--seed", "7"], b"");
-    assert_eq!((status, utf8.lines().count()), (Some(0), 50));
-    assert_eq!(run(&["rows", "lex", "--rows", "50", "--seed", "7"], b""), (Some(0), lex));
+    for what in ["lex", "utf8", "errors", "messages", "places", "records", "readers"] {
+        let words = ["rows", what, "--rows", "50", "--seed", "7"];
+        let (status, rows) = run(&words, b"");
+        assert_eq!((status, rows.lines().count()), (Some(0), 50), "{what}");
+        assert_eq!(run(&words, b""), (Some(0), rows), "{what}");
+    }
+}
+
+/// There are 34 kinds, each with a number of its own.
+#[test]
+fn rows_of_kinds() {
+    let (status, rows) = run(&["rows", "kinds"], b"");
+    let numbers: HashSet<&str> = rows.lines().filter_map(|row| row.rsplit(' ').next()).collect();
+    assert_eq!((status, rows.lines().count(), numbers.len()), (Some(0), 34, 34));
 }
 
 #[test]
@@ -128,6 +138,7 @@ fn usage() {
         &["rows"],
         &["rows", "lex", "--rows"],
         &["rows", "lex", "9"],
+        &["rows", "words"],
         &["record", "9"],
         &["compare-tokens"],
     ] {
