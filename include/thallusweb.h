@@ -1,28 +1,26 @@
 /* Thallusweb: a lexer for the WebAssembly text format with one proved reading.
  *
- * Every call answers for every text, position, settings word and size; none needs anything of its arguments but that the pointers are
- * good for the lengths given (a length of 0 still takes a pointer that is not null). Texts are bytes; THALLUSWEB_ALLOW_CONFUSING lets the
- * nine characters that can make a page show another text than is there stand raw in strings and comments.
+ * thallusweb_list takes a text apart into tokens, thallusweb_parse gives one token; thallusweb_read and thallusweb_part
+ * give what a string, a name or a number among them stands for; thallusweb_move counts lines and columns. The program
+ * examples/c/list.c does all of this.
  *
- * An answer goes into an array of 64-bit words, all of which are written. A refusal is its number, its place, and up to two values:
+ * A text is an array of bytes in UTF-8, at most THALLUSWEB_MAX_TEXT of them; another is refused by number. No 0 byte
+ * ends it: a 0 is a character like others. Lengths, positions, offsets and places count bytes.
  *
- *    1  text longer than 16,777,216 bytes             13  no escape: the character
- *    2  text is not UTF-8: valid-up-to, and the       14  no hexadecimal digit: the character
- *       error's length, 0 where the text ends         16  expected: the character wanted, the one found
- *       inside a character                            17  the text ends inside a string
- *    3  position past the end                         18  the number of a \u{..} does not fit 32 bits
- *    4  position inside a character                   19  no Unicode scalar value: the number
- *   10  block comment that is never closed            20  an underscore that no digit follows
- *   11  unexpected character: the character           21  confusing character: the character
- *   12  control character in a string: it             22  name is not UTF-8: as 2, of the decoded name
- *   23  empty identifier                              32  the buffer is shorter than the copy
- *   24  empty annotation                              33  no room in the list for the next token
- *   30  no such token there                           34  no error has such a message
- *   31  the token's kind is not the reader's          35  line or column over 4,294,967,295
+ * A call needs two things of its arguments:
+ *   - A pointer is good for the length that is given, and is not null, where the length is 0 too.
+ *   - What a call writes (list, buffer, out, place) overlaps nothing else that it is passed: no two lent arrays
+ *     overlap, unless both are only read. With a buffer inside the text, or `out` as a token's words, answers would be
+ *     wrong.
+ * Everything else may be anything: a call answers for every text, position, settings word, token, number and size.
  *
- * Kinds: 1 line comment, 2 block comment, 3 whitespace, 4 (, 5 ), 6 string, 7 id, 8 keyword, 9 annotation, 10 reserved, 11 integer,
- * 12 inf, 13 nan, 14 nan:0x.., 15 any other float; plus 256 for an integer's +, 512 for its - or a negative 12, 13 or 14, 1024 with
- * underscores, 2048 hexadecimal.
+ * An answer goes into an array of 64-bit words, `out`. All of its words are written; those that say nothing are 0.
+ *
+ * A call that takes a text checks all of it for UTF-8 first, however short its token is: so a whole text is best listed
+ * by one call, and a token read as a text of its own. What each call costs is said there.
+ *
+ * A call allocates nothing, keeps nothing for the next one, reads nothing but what it is lent, and prints nothing: any
+ * number of threads may call at once. 16 KiB of stack suffice for every call (tests/stack.c).
  */
 #ifndef THALLUSWEB_H
 #define THALLUSWEB_H
@@ -35,80 +33,218 @@
 extern "C" {
 #endif
 
-/* The longest text, the bytes of a token's record, and a buffer that holds every message. */
+/* The number of this header's words, constants and prototypes. It rises whenever one of them changes, comes or goes: a
+ * library belongs to this header where thallusweb_version returns THALLUSWEB_VERSION. */
+#define THALLUSWEB_VERSION 1
+uint32_t thallusweb_version(void);
+
+/* The longest text that is lexed, the bytes of a token's record in a list, and a buffer that holds every message. */
 #define THALLUSWEB_MAX_TEXT 16777216
 #define THALLUSWEB_RECORD 6
 #define THALLUSWEB_MESSAGE 64
 
-/* Settings: bits joined by |, 0 for none. Bits that are not defined here are ignored, and should be 0, since a later version may give them
- * a meaning. */
+/* How many words there are: in the `out` of each call, and for a token. */
+#define THALLUSWEB_UTF8_WORDS 3
+#define THALLUSWEB_PARSE_WORDS 6
+#define THALLUSWEB_ANNOTATION_WORDS 5
+#define THALLUSWEB_LIST_WORDS 7
+#define THALLUSWEB_READ_WORDS 5
+#define THALLUSWEB_PART_WORDS 3
+#define THALLUSWEB_SIGN_WORDS 5
+#define THALLUSWEB_MESSAGE_WORDS 5
+#define THALLUSWEB_TOKEN_WORDS 3
+
+/* Settings: bits joined by |, 0 for none. Bits that are not defined here are ignored, and should be 0, since a later
+ * version may give them a meaning.
+ *
+ * THALLUSWEB_ALLOW_CONFUSING lets nine characters stand raw in strings and comments, where they are otherwise refused
+ * by 21, since with them a page may show another text than is there:
+ *   U+202A left-to-right embedding     U+202B right-to-left embedding    U+202D left-to-right override
+ *   U+202E right-to-left override      U+2066 left-to-right isolate      U+2067 right-to-left isolate
+ *   U+2068 first strong isolate        U+2069 pop directional isolate    U+206C inhibit Arabic form shaping */
 #define THALLUSWEB_ALLOW_CONFUSING 1
 
-/* Whether the text, of any length, is UTF-8. out: 0, 0, 0; or 2, valid-up-to, error length. */
+/* What out[0] says. */
+enum {
+    THALLUSWEB_REFUSED = 2,   /* all but part: a refusal; its number, place and values follow, but for utf8_check */
+    THALLUSWEB_NOTHING = 0,   /* parse, annotation: no token */
+    THALLUSWEB_TOKEN = 1,     /* parse, annotation: a token */
+    THALLUSWEB_END = 0,       /* list: the end of the text */
+    THALLUSWEB_BUDGET = 1,    /* list: the budget is used up */
+    THALLUSWEB_FULL = 3,      /* list: no room for the next token */
+    THALLUSWEB_ABSENT = 0,    /* read, float_sign: the token has no such thing; part: an empty part */
+    THALLUSWEB_IN_TEXT = 1,   /* read, part: a part of the text */
+    THALLUSWEB_IN_BUFFER = 3, /* read, part: a part of the buffer */
+    THALLUSWEB_TOLD = 1       /* integer_sign, float_sign, message: out[1] says it */
+};
+
+/* A token's kind: one of the first fifteen numbers, which `kind & THALLUSWEB_KIND_MASK` is, plus the bits of what a
+ * number's spelling shows. */
+enum {
+    THALLUSWEB_KIND_LINE_COMMENT = 1,   /* ;; and what follows, up to LF, CR or the end of the text, without it */
+    THALLUSWEB_KIND_BLOCK_COMMENT = 2,  /* (; .. ;), which may hold others */
+    THALLUSWEB_KIND_WHITESPACE = 3,     /* a run of space, tab, LF and CR */
+    THALLUSWEB_KIND_LPAREN = 4,         /* ( */
+    THALLUSWEB_KIND_RPAREN = 5,         /* ) */
+    THALLUSWEB_KIND_STRING = 6,         /* "abc" */
+    THALLUSWEB_KIND_ID = 7,             /* $abc or $"abc" */
+    THALLUSWEB_KIND_KEYWORD = 8,        /* abc */
+    THALLUSWEB_KIND_ANNOTATION = 9,     /* @abc or @"abc" */
+    THALLUSWEB_KIND_RESERVED = 10,      /* any other run, such as 1x or "a"b, and each of ; , [ ] { } */
+    THALLUSWEB_KIND_INTEGER = 11,       /* 10, -1_000, 0xff */
+    THALLUSWEB_KIND_INF = 12,           /* inf */
+    THALLUSWEB_KIND_NAN = 13,           /* nan */
+    THALLUSWEB_KIND_NAN_VAL = 14,       /* nan:0x12 */
+    THALLUSWEB_KIND_NORMAL = 15,        /* any other float: 1.5, 1e3, 0x1p-2 */
+    THALLUSWEB_KIND_PLUS = 256,         /* a + before an integer */
+    THALLUSWEB_KIND_MINUS = 512,        /* a - before an integer, inf, nan or nan:0x.., and no other float */
+    THALLUSWEB_KIND_UNDERSCORES = 1024, /* underscores in an integer, a nan:0x.. or any other float */
+    THALLUSWEB_KIND_HEX = 2048,         /* 0x in an integer or any other float */
+    THALLUSWEB_KIND_MASK = 255
+};
+
+/* Refusals: number, place and values. A value that is not named is 0; 15 is not used. */
+enum {
+    /* What is asked: tested first, in this order. The place of 1, 3 and 4 is the position, or the token's offset, that
+     * was given; that of 2 is valid-up-to. */
+    THALLUSWEB_TOO_LONG = 1,         /* the text is longer than THALLUSWEB_MAX_TEXT */
+    THALLUSWEB_NOT_UTF8 = 2,         /* the text is not UTF-8; first: valid-up-to, how many bytes at its front are;
+                                        second: how many bytes are wrong there, 0 if the text ends inside a character */
+    THALLUSWEB_PAST_END = 3,         /* the position is past the end of the text */
+    THALLUSWEB_INSIDE_CHARACTER = 4, /* the position is inside a character */
+
+    /* What the text says. The place is the comment's start for 10 and the end of the text for 17; else it is that of
+     * the character, digit or underscore that is named here. */
+    THALLUSWEB_DANGLING_BLOCK_COMMENT = 10, /* a block comment is never closed */
+    THALLUSWEB_UNEXPECTED = 11,             /* no token starts with this character; first: the character */
+    THALLUSWEB_INVALID_STRING_ELEMENT = 12, /* a character under U+20, or U+7F, in a string; first: the character */
+    THALLUSWEB_INVALID_STRING_ESCAPE = 13,  /* no escape has this character after its \; first: the character */
+    THALLUSWEB_INVALID_HEX_DIGIT = 14,      /* no hexadecimal digit, where one is needed; first: the character */
+    THALLUSWEB_EXPECTED = 16,               /* another character than the { or } of \u{..}; first: the one wanted,
+                                               second: the character */
+    THALLUSWEB_UNEXPECTED_EOF = 17,         /* the text ends inside a string */
+    THALLUSWEB_NUMBER_TOO_BIG = 18,         /* with this digit the number of a \u{..} no longer fits 32 bits */
+    THALLUSWEB_INVALID_UNICODE_VALUE = 19,  /* with this last digit the number of a \u{..} is no Unicode scalar value;
+                                               first: the number */
+    THALLUSWEB_LONE_UNDERSCORE = 20,        /* the number of a \u{..} ends in this underscore */
+    THALLUSWEB_CONFUSING_UNICODE = 21,      /* one of the nine above, raw in a string or a comment, the first there;
+                                               first: the character */
+
+    /* What a name stands for. The place is the token's offset. */
+    THALLUSWEB_INVALID_UTF8_ID = 22,  /* the name is not UTF-8; first and second: as for 2, in the decoded name */
+    THALLUSWEB_EMPTY_ID = 23,         /* nothing stands behind the $ */
+    THALLUSWEB_EMPTY_ANNOTATION = 24, /* nothing stands behind the @ */
+
+    /* What a call cannot do. These have no place: it is 0. */
+    THALLUSWEB_NOT_THAT_TOKEN = 30,   /* no token of that kind and length stands at the offset */
+    THALLUSWEB_NOT_THAT_KIND = 31,    /* the reader does not take tokens of that kind */
+    THALLUSWEB_BUFFER_TOO_SHORT = 32, /* the copy or the message is longer than the buffer */
+    THALLUSWEB_LIST_FULL = 33,        /* the list has no room for the next token; out[0] is THALLUSWEB_FULL */
+    THALLUSWEB_NO_MESSAGE = 34,       /* no error has that number and those values */
+    THALLUSWEB_COUNTER_FULL = 35      /* a line or column over 4,294,967,295: thallusweb_move returns false */
+};
+
+/* Whether the text, here of any length, is UTF-8. out: 0, 0, 0; or THALLUSWEB_REFUSED, valid-up-to and the number of
+ * wrong bytes, as the values of refusal 2.
+ * Cost: the text. */
 void thallusweb_utf8_check(const uint8_t *text, size_t len, uint64_t out[3]);
 
-/* One token at a position. out[0] is 0 for nothing (the end of the text), 1 for a token, 2 for a refusal.
- *   token:    out[1] its kind, out[2] its offset, out[3] its length, out[4] 0
- *   refusal:  out[1] its number, out[2] its place, out[3] and out[4] its values
- * out[5] is the position afterwards: past the token; after 12 to 21 where lexing may go on; after 1 to 4, 10 and 11 the position given, where
- * the same call is refused again. */
+/* One token at a position. out[0]:
+ *   THALLUSWEB_NOTHING   the position is the end of the text
+ *   THALLUSWEB_TOKEN     out[1] its kind, out[2] its offset, which is the position, out[3] its length
+ *   THALLUSWEB_REFUSED   1 to 4 or 10 to 21: out[1] the number, out[2] its place, out[3] and out[4] its values
+ * out[5] is the position afterwards: past the token; after 12 to 20 past the last character read; after 21 in a string
+ * the same, in a comment past the comment. After 1 to 4, 10 and 11, and at the end, it is the position given, where the
+ * same call answers the same again.
+ * Cost: a check of the whole text, then the token. */
 void thallusweb_parse(const uint8_t *text, size_t len, uint32_t settings, size_t position, uint64_t out[6]);
 
-/* The annotation at a position: the same five words. Nothing where no @ stands, past the end too. */
+/* The annotation at a position: the words are those of thallusweb_parse without the last. THALLUSWEB_NOTHING where no @
+ * stands, past the end and inside a character too, and where another token starts with the @. Refused by 1, 2 and 12 to
+ * 21.
+ * Cost: a check of the whole text, then the token. */
 void thallusweb_annotation(const uint8_t *text, size_t len, uint32_t settings, size_t position, uint64_t out[5]);
 
-/* The tokens from `start` on, at most `budget` of them, as records of six bytes in `list`: the length in four and the kind in two, the
- * least byte first. Bytes of the list past the records stay as they were.
- * out[0] is why it stopped: 0 the end, 1 the budget is used up, 2 a refusal, 3 no room (out[1] is 33).
- *   refusal:  out[1] its number, out[2] its place, out[3] and out[4] its values
- * out[5] is how many tokens were handed out, out[6] the position: where the first token not handed out starts, or what
- * thallusweb_parse leaves there after an error. The text is checked once, however many tokens there are. */
+/* The tokens from `start` on, at most `budget` of them, as records in `list`: a record has THALLUSWEB_RECORD bytes, the
+ * token's length in four and its kind in two, the least byte first. The first token's offset is `start`, the next one's
+ * that plus the length, and so on. A list of six times the text's length always suffices, since no token is empty.
+ * out[0] is why it stopped: THALLUSWEB_REFUSED by 1 to 4 before any token, else the first of these that holds:
+ *   THALLUSWEB_END       the end of the text
+ *   THALLUSWEB_BUDGET    as many tokens as `budget` says are in the list
+ *   THALLUSWEB_REFUSED   10 to 21: out[1] the number, out[2] its place, out[3] and out[4] its values, as for 1 to 4
+ *   THALLUSWEB_FULL      no room for the next token: out[1] is 33
+ * out[5] is how many tokens are in the list. out[6] is the position, from which another call goes on: the start of the
+ * first token that is not in the list, or after a refusal what thallusweb_parse leaves in out[5] there. Bytes of the
+ * list past its records stay as they were.
+ * Cost: one check of the whole text, then the tokens. */
 void thallusweb_list(const uint8_t *text, size_t len, uint32_t settings, size_t start, size_t budget, uint8_t *list,
                      size_t list_len, uint64_t out[7]);
 
-/* Readers, by number. Digits come without underscores, without a + and without 0x; of a hexadecimal number they are its hexadecimal digits. */
+/* Readers. Digits come without underscores, without a + and without 0x; of a hexadecimal number, other than its
+ * exponent, they are hexadecimal. */
 enum {
-    THALLUSWEB_SRC,        /* the token's own bytes; takes every kind */
-    THALLUSWEB_STRING,     /* the bytes that a string stands for, its escapes decoded; kind 6 */
-    THALLUSWEB_ID,         /* the name behind a $, decoded if it is a string; kind 7 */
-    THALLUSWEB_ANNOTATION, /* the name behind an @, decoded if it is a string; kind 9 */
-    THALLUSWEB_INTEGER,    /* an integer's digits, with its -; kind 11 */
-    THALLUSWEB_INTEGRAL,   /* the digits before a float's point, with its -; kinds 12 to 15, and so the next three */
-    THALLUSWEB_FRACTION,   /* those after its point, if there are any */
-    THALLUSWEB_EXPONENT,   /* those of its exponent, with its -, if it has one */
-    THALLUSWEB_PAYLOAD     /* those after nan:0x, of kind 14 */
+    THALLUSWEB_SRC = 0,        /* the token's own bytes; takes every kind */
+    THALLUSWEB_STRING = 1,     /* the bytes that a string stands for, its escapes decoded; kind 6 */
+    THALLUSWEB_ID = 2,         /* the name behind a $, decoded if it is a string; kind 7 */
+    THALLUSWEB_ANNOTATION = 3, /* the name behind an @, decoded if it is a string; kind 9 */
+    THALLUSWEB_INTEGER = 4,    /* an integer's digits, with its -; kind 11 */
+    THALLUSWEB_INTEGRAL = 5,   /* the digits before a float's point, with its -; kinds 12 to 15, as the next three */
+    THALLUSWEB_FRACTION = 6,   /* those after its point, if there are any */
+    THALLUSWEB_EXPONENT = 7,   /* those of its exponent, with its -, if it has one */
+    THALLUSWEB_PAYLOAD = 8     /* those after nan:0x, of kind 14 */
 };
 
-/* A reader's first call. token: kind, offset and length, as thallusweb_parse leaves them in out[1], out[2] and out[3], so that `out + 1`
- * will do. The value's bytes are a part of the text, or a copy at the front of the buffer; a buffer as long as the token
- * always holds one. out[0] is
- *   0  the token has no such part
- *   1  a part of the text:    out[1] its start, out[2] its length
- *   2  a refusal:             out[1] its number (1 to 4, 22 to 24, 30 to 32), out[2] its place (0 for 30 to 32), out[3] and out[4] its values
- *   3  a part of the buffer:  out[1] its start, out[2] its length
- * A reader's number that is not above is refused by 31. A refusal leaves the buffer as it was, but 22, which leaves the decoded name in it.
- * Each call checks the whole text; handed the token's bytes alone, as a text, with the offset 0, it gives the same value for the
- * price of the token. */
-void thallusweb_read(const uint8_t *text, size_t len, uint64_t reader, const uint64_t token[3], uint8_t *buffer, size_t buffer_len,
-                     uint64_t out[5]);
+/* A reader's first call. token: kind, offset and length, as thallusweb_parse leaves them in out[1], out[2] and out[3].
+ * Copy these words, unless the answer goes into another array: `uint64_t token[3] = { out[1], out[2], out[3] };`. The
+ * value's bytes are a part of the text, or a copy at the front of the buffer; a buffer as long as the token always
+ * holds one. out[0]:
+ *   THALLUSWEB_ABSENT     the token has no such part
+ *   THALLUSWEB_IN_TEXT    out[1] where the value starts in the text, out[2] its length
+ *   THALLUSWEB_IN_BUFFER  out[1] where it starts in the buffer, which is 0, out[2] its length
+ *   THALLUSWEB_REFUSED    1 to 4, 30, 31, 32 or 22 to 24, tested in this order: out[1] the number, out[2] its place,
+ *                         out[3] and out[4] its values
+ * A reader's number that is not above is refused by 31. Bytes of the buffer past a copy stay as they were; a refusal
+ * leaves all of them, but 22, which leaves the decoded name at the front.
+ * Cost: a check of the whole text, then the token. Handed the token's own bytes as a text, with the offset 0, a reader
+ * gives the same value for the cost of the token alone. */
+void thallusweb_read(const uint8_t *text, size_t len, uint64_t reader, const uint64_t token[3], uint8_t *buffer,
+                     size_t buffer_len, uint64_t out[5]);
 
-/* A reader's second call: the part that the first call's answer names, if there is one. out: 1 (of the text) or 3 (of the buffer), start and
- * length; or 0, 0, 0 for an empty part, where the answer is no part or its part is not inside. Any answer may be handed to it. */
-void thallusweb_part(const uint8_t *text, size_t len, const uint8_t *buffer, size_t buffer_len, const uint64_t answer[5], uint64_t out[3]);
+/* A reader's second call: the part that the first call's answer names. out: THALLUSWEB_IN_TEXT or THALLUSWEB_IN_BUFFER,
+ * its start and its length; or 0, 0, 0, an empty part, where the answer names none or one that is not inside. Any five
+ * words may be handed to it.
+ * Cost: the same for every text. */
+void thallusweb_part(const uint8_t *text, size_t len, const uint8_t *buffer, size_t buffer_len,
+                     const uint64_t answer[5], uint64_t out[3]);
 
-/* An integer's sign. out[0] is 1, and out[1] 0 for none, 1 for + and 2 for -; or 2 and a refusal, as above. */
+/* The sign of an integer, as out[1] says it. */
+enum {
+    THALLUSWEB_SIGN_NONE = 0,
+    THALLUSWEB_SIGN_PLUS = 1,
+    THALLUSWEB_SIGN_MINUS = 2
+};
+
+/* An integer's sign. out[0]: THALLUSWEB_TOLD, with the sign in out[1]; or THALLUSWEB_REFUSED, by 1 to 4, 30 or 31.
+ * Cost: a check of the whole text, then the token. */
 void thallusweb_integer_sign(const uint8_t *text, size_t len, const uint64_t token[3], uint64_t out[5]);
 
-/* Whether an inf or nan is negative. out[0] is 1, and out[1] 0 or 1; out[0] is 0 for any other float, whose sign is in its integral
- * part; or 2 and a refusal, as above. */
+/* Whether an inf, nan or nan:0x.. is negative. out[0]: THALLUSWEB_TOLD, with 1 in out[1] if it is, else 0;
+ * THALLUSWEB_ABSENT for any other float, whose - is in its integral part; or THALLUSWEB_REFUSED, by 1 to 4, 30 or 31.
+ * Cost: a check of the whole text, then the token. */
 void thallusweb_float_sign(const uint8_t *text, size_t len, const uint64_t token[3], uint64_t out[5]);
 
-/* The message of an error, 10 to 24, with its values as a refusal has them; each is under 2^32, also where the error does not carry it, and
- * then does not matter otherwise. out[0] is 1, and out[1] the message's length, at the front of the buffer; or 2 and a refusal, 34 or 32. It is no C string: no 0 follows it. */
-void thallusweb_message(uint64_t number, uint64_t first, uint64_t second, uint8_t *buffer, size_t buffer_len, uint64_t out[5]);
+/* The message of an error, 10 to 24: its number and its values, as a refusal has them. Values that the error does not
+ * carry, and those of 22, may be anything. out[0]: THALLUSWEB_TOLD, with the message's length in out[1] and the message
+ * at the front of the buffer (no 0 follows it); or THALLUSWEB_REFUSED, by 34 or 32, tested in this order, which leaves
+ * the buffer as it was. THALLUSWEB_MESSAGE bytes always suffice.
+ * Cost: the message. */
+void thallusweb_message(uint64_t number, uint64_t first, uint64_t second, uint8_t *buffer, size_t buffer_len,
+                        uint64_t out[5]);
 
-/* The place counter: line and column, each from 1, so that a new one is { 1, 1 }. It is moved over a token's bytes; columns count bytes. False
- * is 35, and leaves it as it was. */
+/* The place counter: line and column, each from 1, so that a new one is { 1, 1 }. It is moved over bytes, such as a
+ * token's: a LF (the byte 10) ends a line, and every other byte, a CR too, is a column. Returns false, and leaves the
+ * counter as it was, where a line or column would pass 4,294,967,295 at any byte (35).
+ * Cost: the bytes. */
 bool thallusweb_move(uint32_t place[2], const uint8_t *bytes, size_t len);
 
 #ifdef __cplusplus

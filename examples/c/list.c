@@ -1,11 +1,13 @@
-/* Lists the tokens of a file, each with its line, column, kind and bytes, and what the strings and names among them stand for. */
+/* Lists the tokens of a file, each with its line, column, kind and bytes, and what the strings and names among them
+ * stand for. */
 #include "thallusweb.h"
 
 #include <stdio.h>
 #include <stdlib.h>
 #include <string.h>
 
-enum { CHUNK = 1024 };
+/* how many bytes of the text are looked at first, and how many tokens are listed at once */
+enum { WINDOW = 4096, CHUNK = 4096 };
 
 /* The bytes of a file, which are one more than the longest text if there are that many. */
 static uint8_t *contents(const char *name, size_t *len) {
@@ -31,20 +33,29 @@ static uint8_t *contents(const char *name, size_t *len) {
 /* A refusal's message, or its number where it has none of its own. */
 static void complain(const char *name, const uint32_t place[2], const uint64_t refusal[5]) {
     uint8_t message[THALLUSWEB_MESSAGE];
-    uint64_t told[5];
+    uint64_t told[THALLUSWEB_MESSAGE_WORDS];
     thallusweb_message(refusal[1], refusal[3], refusal[4], message, sizeof message, told);
-    if (told[0] == 1) {
+    if (told[0] == THALLUSWEB_TOLD) {
         printf("%s:%u:%u: %.*s\n", name, place[0], place[1], (int)told[1], (const char *)message);
     } else {
         printf("%s:%u:%u: refused by %llu\n", name, place[0], place[1], (unsigned long long)refusal[1]);
     }
 }
 
-/* What a string, an id or an annotation stands for. It is handed just its own bytes: the value is the same, and the price the token's. */
-static void print_value(const uint8_t *own, uint64_t kind, uint64_t len) {
-    uint64_t reader = kind == 6 ? THALLUSWEB_STRING : kind == 7 ? THALLUSWEB_ID : THALLUSWEB_ANNOTATION;
-    uint64_t token[3] = {kind, 0, len};
-    uint64_t answer[5], part[3];
+/* The reader that says what a token of the kind stands for; THALLUSWEB_SRC if it stands for itself. */
+static uint64_t reader_for(uint64_t kind) {
+    switch (kind) {
+    case THALLUSWEB_KIND_STRING: return THALLUSWEB_STRING;
+    case THALLUSWEB_KIND_ID: return THALLUSWEB_ID;
+    case THALLUSWEB_KIND_ANNOTATION: return THALLUSWEB_ANNOTATION;
+    default: return THALLUSWEB_SRC;
+    }
+}
+
+/* What a token stands for. It is handed just its own bytes: the value is the same, and the price the token's. */
+static void print_value(const uint8_t *own, uint64_t reader, uint64_t kind, uint64_t len) {
+    uint64_t token[THALLUSWEB_TOKEN_WORDS] = {kind, 0, len};
+    uint64_t answer[THALLUSWEB_READ_WORDS], part[THALLUSWEB_PART_WORDS];
     uint8_t *buffer = malloc(len);
     if (buffer == NULL) {
         perror("memory");
@@ -52,13 +63,45 @@ static void print_value(const uint8_t *own, uint64_t kind, uint64_t len) {
     }
     thallusweb_read(own, len, reader, token, buffer, len, answer);
     thallusweb_part(own, len, buffer, len, answer, part);
-    if (answer[0] == 2) {
+    if (answer[0] == THALLUSWEB_REFUSED) {
         printf(" refused by %llu", (unsigned long long)answer[1]);
     } else {
         printf(" = ");
-        fwrite((part[0] == 3 ? buffer : own) + part[1], 1, part[2], stdout);
+        fwrite((part[0] == THALLUSWEB_IN_BUFFER ? buffer : own) + part[1], 1, part[2], stdout);
     }
     free(buffer);
+}
+
+/* The tokens of a UTF-8 text from `at` on, at most CHUNK of them, as records in `list`; the words as thallusweb_list
+ * leaves them for the whole text, but for the position. Each call checks the text that it is given: so it is given a
+ * window, which grows until a token ends inside it, and all takes as long as the text is. That the window's answers are
+ * the text's is proved (docs/ARCHITECTURE.md: windows): each token but one that ends where the window does, and each
+ * error but 10 that leaves the position before the window's end. */
+static void next_tokens(const uint8_t *text, size_t len, size_t at, uint8_t *list,
+                        uint64_t listed[THALLUSWEB_LIST_WORDS]) {
+    for (size_t window = WINDOW;; window *= 2) {
+        size_t end = len - at <= window ? len : at + window;
+        while (end < len && (text[end] & 0xC0) == 0x80) {
+            end--; /* to the start of a character */
+        }
+        thallusweb_list(text + at, end - at, 0, 0, CHUNK, list, THALLUSWEB_RECORD * CHUNK, listed);
+        bool refused = listed[0] == THALLUSWEB_REFUSED;
+        bool decided = listed[0] == THALLUSWEB_BUDGET ||
+                       (refused && listed[1] != THALLUSWEB_DANGLING_BLOCK_COMMENT && listed[6] < end - at);
+        if (refused) {
+            listed[2] += at;
+        }
+        if (decided || end == len) {
+            return;
+        }
+        if (listed[0] == THALLUSWEB_END) {
+            listed[5]--; /* the token that ends where the window does */
+        }
+        if (listed[5] > 0) {
+            listed[0] = THALLUSWEB_BUDGET;
+            return;
+        }
+    }
 }
 
 int main(int argc, char **argv) {
@@ -66,34 +109,45 @@ int main(int argc, char **argv) {
         fprintf(stderr, "usage: list FILE\n");
         return 2;
     }
+    if (thallusweb_version() != THALLUSWEB_VERSION) {
+        fprintf(stderr, "list: the library is not the header's\n");
+        return 2;
+    }
     size_t len;
     uint8_t *text = contents(argv[1], &len);
     uint32_t place[2] = {1, 1};
+    uint64_t listed[THALLUSWEB_LIST_WORDS];
+    static uint8_t list[THALLUSWEB_RECORD * CHUNK];
+    /* with a budget of 0 this says whether the text is refused, by 1 or 2 */
+    thallusweb_list(text, len, 0, 0, 0, list, sizeof list, listed);
+    if (listed[0] == THALLUSWEB_REFUSED) {
+        complain(argv[1], place, listed);
+        free(text);
+        return 1;
+    }
     size_t at = 0;
     for (;;) {
-        uint8_t list[THALLUSWEB_RECORD * CHUNK];
-        uint64_t listed[7];
-        thallusweb_list(text, len, 0, at, CHUNK, list, sizeof list, listed);
+        next_tokens(text, len, at, list, listed);
         for (size_t i = 0; i < listed[5]; i++) {
             const uint8_t *record = list + THALLUSWEB_RECORD * i;
             uint64_t token_len = record[0] | record[1] << 8 | record[2] << 16 | (uint64_t)record[3] << 24;
             uint64_t kind = record[4] | record[5] << 8;
-            if (kind != 3) {
+            if (kind != THALLUSWEB_KIND_WHITESPACE) {
                 printf("%u:%u %llu ", place[0], place[1], (unsigned long long)kind);
                 fwrite(text + at, 1, token_len, stdout);
-                if (kind == 6 || kind == 7 || kind == 9) {
-                    print_value(text + at, kind, token_len);
+                if (reader_for(kind) != THALLUSWEB_SRC) {
+                    print_value(text + at, reader_for(kind), kind, token_len);
                 }
                 putchar('\n');
             }
             thallusweb_move(place, text + at, token_len);
             at += token_len;
         }
-        if (listed[0] == 0) {
+        if (listed[0] == THALLUSWEB_END) {
             free(text);
             return 0;
         }
-        if (listed[0] == 2) {
+        if (listed[0] == THALLUSWEB_REFUSED) {
             if (listed[2] >= at && listed[2] <= len) {
                 thallusweb_move(place, text + at, listed[2] - at);
             }

@@ -1,62 +1,308 @@
-//! The Rust bindings beside the original: the same text asked of both, and what both say compared as they print it.
+//! The Rust bindings beside the original: the same text asked of both, in every way that the bindings have, with both flags. What
+//! docs/RULES.md adds to the Rust is expected by its rule, as `compare.rs` and `reading.rs` expect it of the C calls.
 
-use crate::compare::shown;
+use crate::compare::{self, CANARY, MARGIN, shown};
+use crate::ours::{self as c, Found, Listed, Reading, Refused};
+use crate::reading;
 use oracle::lexer as wast;
-use thallusweb::lexer as ours;
+use oracle::listing::RECORD;
+use oracle::texts::Texts;
+use std::borrow::Cow;
+use thallusweb::lexer::{self as ours, LexError, Reader};
+use thallusweb::{Error, Place, Refusal, Settings};
 
 /// How many tokens and errors of one text are asked for: `iter` may repeat an error for ever.
 const MOST: usize = 64;
 
-fn same(ours: impl std::fmt::Debug, wast: impl std::fmt::Debug, text: &str) {
-    let (ours, wast) = (format!("{ours:?}"), format!("{wast:?}"));
-    assert_eq!(ours, wast, "bindings, of {}", shown(text.as_bytes()));
+/// The readers, in the order of their numbers.
+const READERS: [Reader; 9] = [
+    Reader::Src,
+    Reader::String,
+    Reader::Id,
+    Reader::Annotation,
+    Reader::Integer,
+    Reader::Integral,
+    Reader::Fraction,
+    Reader::Exponent,
+    Reader::Payload,
+];
+
+/// A text, the flag with which it is lexed, and the bindings' lexer for both.
+#[derive(Clone, Copy)]
+struct Asked<'a> {
+    text: &'a str,
+    flag: bool,
+    lexer: ours::Lexer<'a>,
 }
 
-fn value(text: &str, token: &ours::Token, original: &wast::Token) {
-    same(token.src(text), original.src(text), text);
-    match (token.kind, original.kind) {
-        (ours::TokenKind::String, _) => same(token.string(text), original.string(text), text),
-        (ours::TokenKind::Id, _) => {
-            let original = original.id(text).map_err(|error| error.to_string());
-            same(token.id(text).map_err(|error| error.message()), original, text);
+/// The numbers of a refusal, as the C calls give them.
+fn refused(error: &Error) -> Refused {
+    let lengths = |error: &ours::Utf8Error| [error.valid_up_to() as u64, error.error_len().unwrap_or(0) as u64];
+    let (number, values) = match *error.refusal() {
+        Refusal::TooLong => (1, [0, 0]),
+        Refusal::NotUtf8(ref error) => (2, lengths(error)),
+        Refusal::PastEnd => (3, [0, 0]),
+        Refusal::InsideCharacter => (4, [0, 0]),
+        Refusal::Lex(LexError::DanglingBlockComment) => (10, [0, 0]),
+        Refusal::Lex(LexError::Unexpected(c)) => (11, [c.into(), 0]),
+        Refusal::Lex(LexError::InvalidStringElement(c)) => (12, [c.into(), 0]),
+        Refusal::Lex(LexError::InvalidStringEscape(c)) => (13, [c.into(), 0]),
+        Refusal::Lex(LexError::InvalidHexDigit(c)) => (14, [c.into(), 0]),
+        Refusal::Lex(LexError::Expected { wanted, found }) => (16, [wanted.into(), found.into()]),
+        Refusal::Lex(LexError::UnexpectedEof) => (17, [0, 0]),
+        Refusal::Lex(LexError::NumberTooBig) => (18, [0, 0]),
+        Refusal::Lex(LexError::InvalidUnicodeValue(n)) => (19, [n.into(), 0]),
+        Refusal::Lex(LexError::LoneUnderscore) => (20, [0, 0]),
+        Refusal::Lex(LexError::ConfusingUnicode(c)) => (21, [c.into(), 0]),
+        Refusal::Lex(LexError::InvalidUtf8Id(ref error)) => (22, lengths(error)),
+        Refusal::Lex(LexError::EmptyId) => (23, [0, 0]),
+        Refusal::Lex(LexError::EmptyAnnotation) => (24, [0, 0]),
+        Refusal::NotThatToken => (30, [0, 0]),
+        Refusal::NotThatKind => (31, [0, 0]),
+        ref other => panic!("bindings: {other:?} from a text"),
+    };
+    assert_eq!(error.refusal().number(), number, "bindings, the number of {error:?}");
+    assert_eq!(error.place().is_some(), number < 30, "bindings, whether {error:?} stands somewhere");
+    let message = error.message();
+    if (10..30).contains(&number) {
+        let expected = oracle::numbers::message(number as u8, values.map(|value| value as u32));
+        assert_eq!(Some(&message), expected.as_ref(), "bindings, the message of {error:?}");
+        assert_eq!(error.lex_error().map(ToString::to_string), expected, "bindings, the lexing error of {error:?}");
+    } else {
+        assert_eq!(error.lex_error(), None, "bindings, the lexing error of {error:?}");
+    }
+    let shown = error.place().map_or(message.clone(), |place| format!("{message} at byte {place}"));
+    assert_eq!(error.to_string(), shown, "bindings, how {error:?} is shown");
+    Refused { number, values, place: error.place().unwrap_or(0) as u64 }
+}
+
+fn found(found: Result<Option<ours::Token>, Error>) -> Found {
+    match found {
+        Ok(None) => Found::Nothing,
+        Ok(Some(token)) => {
+            let kind = token.kind.number();
+            assert_eq!(ours::TokenKind::from_number(kind), Some(token.kind), "bindings, the kind with a number");
+            Found::Token { kind, offset: token.offset as u64, len: token.len.into() }
         }
-        (ours::TokenKind::Annotation, _) => {
-            let original = original.annotation(text).map_err(|error| error.to_string());
-            same(token.annotation(text).map_err(|error| error.message()), original, text);
-        }
-        (ours::TokenKind::Integer(kind), wast::TokenKind::Integer(of)) => {
-            same(token.integer(text, kind), original.integer(text, of), text);
-        }
-        (ours::TokenKind::Float(kind), wast::TokenKind::Float(of)) => {
-            same(token.float(text, kind), original.float(text, of), text);
-        }
-        _ => {}
+        Err(error) => Found::Refused(refused(&error)),
     }
 }
 
-/// Compares what `iter` gives of a text, item by item, with the values of its tokens; answers how many items there were.
-pub fn compare(text: &str, allow: bool) -> u64 {
-    let mut lexer = ours::Lexer::new(text);
-    lexer.allow_confusing_unicode(allow);
-    let mut original = wast::Lexer::new(text);
-    original.allow_confusing_unicode(allow);
-    let mut items = lexer.iter(0).take(MOST);
-    let mut originals = original.iter(0).take(MOST);
-    let mut count = 0;
-    loop {
-        match (items.next(), originals.next()) {
-            (None, None) => return count,
-            (Some(Ok(token)), Some(Ok(original))) => {
-                same(token, original, text);
-                value(text, &token, &original);
+/// Lexers of a text with a flag: set on, built with, and turned round twice.
+fn lexers(text: &str, flag: bool) -> [ours::Lexer<'_>; 3] {
+    let mut set = ours::Lexer::new(text);
+    set.allow_confusing_unicode(flag);
+    let built = ours::Lexer::with_settings(text, Settings::new().allow_confusing_unicode(flag));
+    let mut turned = built;
+    turned.allow_confusing_unicode(!flag).allow_confusing_unicode(flag);
+    [set, built, turned]
+}
+
+impl Asked<'_> {
+    fn of(&self, what: &str) -> String {
+        format!("bindings, {what} of {}, flag {}", shown(self.text.as_bytes()), self.flag)
+    }
+
+    /// As both print it.
+    fn same(&self, what: &str, ours: impl std::fmt::Debug, wast: impl std::fmt::Debug) {
+        assert_eq!(format!("{ours:?}"), format!("{wast:?}"), "{}", self.of(what));
+    }
+
+    fn name(&self, ours: Result<Cow<str>, Error>, wast: Result<Cow<str>, oracle::Error>) {
+        let wast = wast.map_err(|error| compare::passed_on(error.into()));
+        self.same("the name", ours.map_err(|error| refused(&error)), wast);
+    }
+
+    /// A token's value, under the names of wast.
+    fn value(&self, token: &ours::Token, original: &wast::Token) {
+        let text = self.text;
+        self.same("a token", token, original);
+        self.same("src", token.src(text), original.src(text));
+        match (token.kind, original.kind) {
+            (ours::TokenKind::String, _) => self.same("string", token.string(text), original.string(text)),
+            (ours::TokenKind::Id, _) => self.name(token.id(text), original.id(text)),
+            (ours::TokenKind::Annotation, _) => self.name(token.annotation(text), original.annotation(text)),
+            (ours::TokenKind::Keyword, _) => self.same("keyword", token.keyword(text), original.keyword(text)),
+            (ours::TokenKind::Reserved, _) => self.same("reserved", token.reserved(text), original.reserved(text)),
+            (ours::TokenKind::Integer(kind), wast::TokenKind::Integer(of)) => {
+                let (integer, original) = (token.integer(text, kind), original.integer(text, of));
+                self.same("integer", (integer.sign(), integer.val()), (original.sign(), original.val()));
+                self.same("integer", integer, original);
             }
-            (Some(Err(error)), Some(Err(original))) => {
-                let original = oracle::Fault::from_error(original);
-                let found = (error.message(), error.place(), error.refusal().number());
-                same(found, (original.0, Some(original.1.place), u64::from(original.1.number)), text);
+            (ours::TokenKind::Float(kind), wast::TokenKind::Float(of)) => {
+                self.same("float", token.float(text, kind), original.float(text, of));
             }
-            (found, original) => panic!("bindings: {found:?} beside {original:?}, of {}", shown(text.as_bytes())),
+            _ => {}
         }
-        count += 1;
+    }
+
+    /// Every reader of a token that is there, and of the same bytes under another kind.
+    fn readings(&self, token: ours::Token) -> u64 {
+        let text = self.text.as_bytes();
+        let other = if token.kind == ours::TokenKind::String { ours::TokenKind::Id } else { ours::TokenKind::String };
+        for token in [token, ours::Token { kind: other, ..token }] {
+            for (number, reader) in READERS.into_iter().enumerate() {
+                let words = [token.kind.number(), token.offset as u64, token.len.into()];
+                let mut buffer = vec![CANARY; token.len as usize];
+                let expected = reading::expected_reading(text, number as u64, words, &mut buffer);
+                let answer = match token.read(self.text, reader) {
+                    Ok(None) => Reading::Absent,
+                    Ok(Some(Cow::Borrowed(part))) => {
+                        let start = part.as_ptr().addr().wrapping_sub(text.as_ptr().addr());
+                        Reading::Text { start: start as u64, len: part.len() as u64 }
+                    }
+                    Ok(Some(Cow::Owned(copy))) => {
+                        assert_eq!(Some(&copy[..]), buffer.get(..copy.len()), "{}", self.of("a copy"));
+                        Reading::Buffer { start: 0, len: copy.len() as u64 }
+                    }
+                    Err(error) => Reading::Refused(refused(&error)),
+                };
+                assert_eq!(answer, expected, "{} {token:?}, {reader:?}", self.of("the reading"));
+            }
+        }
+        2 * READERS.len() as u64
+    }
+
+    /// `iter` from a start on, item by item, with the values of its tokens.
+    fn items(&self, start: usize) -> u64 {
+        let mut original = wast::Lexer::new(self.text);
+        original.allow_confusing_unicode(self.flag);
+        let mut items = self.lexer.iter(start).take(MOST);
+        let mut originals = original.iter(start).take(MOST);
+        let mut count = 0;
+        loop {
+            match (items.next(), originals.next()) {
+                (None, None) => return count,
+                (Some(Ok(token)), Some(Ok(original))) => self.value(&token, &original),
+                (Some(Err(error)), Some(Err(original))) => {
+                    self.same("an error", refused(&error), compare::passed_on(original.into()));
+                }
+                (found, original) => panic!("{found:?} beside {original:?}, {}", self.of("an item")),
+            }
+            count += 1;
+        }
+    }
+
+    /// One token, the annotation and the place at a position, and every reader of the token.
+    fn position(&self, position: usize) -> u64 {
+        let text = self.text.as_bytes();
+        let at = || format!("{} at {position}", self.of("one token, annotation or place"));
+        let mut after = position;
+        let parsed = self.lexer.parse(&mut after);
+        let readings = match &parsed {
+            // what lexes with the flag off lexes with it on
+            Ok(Some(token)) if self.flag => self.readings(*token),
+            Err(error) => {
+                let before = error.place().and_then(|place| text.get(..place));
+                let place = before.and_then(|before| reading::expected_move([1, 1], before));
+                let expected = place.map(|[line, column]| (line as usize - 1, column as usize - 1));
+                assert_eq!(error.linecol_in(self.text), expected, "{}", at());
+                1
+            }
+            _ => 0,
+        };
+        let expected = compare::expected_token(text, self.flag, position);
+        assert_eq!((found(parsed), after as u64), expected, "{}", at());
+        if let Found::Refused(Refused { number: 3 | 4, .. }) = expected.0 {
+            let item = self.lexer.iter(position).next();
+            assert_eq!(item.map(|item| found(item.map(Some))), Some(expected.0), "{}", at());
+        }
+        let annotation = compare::expected_annotation(text, self.flag, position);
+        assert_eq!(found(self.lexer.annotation(position)), annotation, "{}", at());
+        let place = self.lexer.place(position).map(|place| [place.line(), place.column()]);
+        let expected = match text.get(..position) {
+            Some(before) => Ok(reading::expected_move([1, 1], before).expect("a short text")),
+            None => Err(Refused { number: 3, values: [0, 0], place: position as u64 }),
+        };
+        assert_eq!(place.map_err(|error| refused(&error)), expected, "{}", at());
+        readings + 3
+    }
+
+    /// A listing: its report, every byte of the list, and the bytes around it.
+    fn listing(&self, start: usize, budget: usize, room: usize) -> u64 {
+        let mut expected_list = vec![CANARY; room + 2 * MARGIN];
+        let mut list = expected_list.clone();
+        let middle = MARGIN..MARGIN + room;
+        let text = self.text.as_bytes();
+        let expected = compare::expected_listing(text, self.flag, start, budget, &mut expected_list[middle.clone()]);
+        let listed = self.lexer.list(start, budget, &mut list[middle]);
+        let stop = match &listed.stop {
+            ours::Stop::End => c::Stop::End,
+            ours::Stop::Budget => c::Stop::Budget,
+            ours::Stop::Error(error) => c::Stop::Refused(refused(error)),
+            ours::Stop::Full => c::Stop::Full,
+        };
+        let listed = Listed { stop, count: listed.count as u64, position: listed.position as u64 };
+        let asked = || format!("{} from {start}, budget {budget}, room {room}", self.of("the listing"));
+        assert_eq!(listed, expected, "{}", asked());
+        assert!(list == expected_list, "bytes of the list, {}", asked());
+        1
+    }
+}
+
+/// Compares all that can be asked of a text; answers how many answers there were. `number` is the text's own.
+pub fn text(text: &str, number: u64) -> u64 {
+    let mut chance = Texts::new(number);
+    let mut count = 0;
+    for flag in [false, true] {
+        let [lexer, others @ ..] = lexers(text, flag);
+        for other in others {
+            assert_eq!((other.settings(), other.input()), (lexer.settings(), text), "bindings, of lexers");
+        }
+        assert_eq!(lexer.settings().allows_confusing_unicode(), flag, "bindings, of settings");
+        let asked = Asked { text, flag, lexer: [lexer, others[0], others[1]][chance.below(3)] };
+        count += asked.items(0) + asked.items(chance.boundary(text));
+        for position in (0..text.len() + 3).chain([usize::MAX]) {
+            count += asked.position(position);
+        }
+        count += asked.listing(0, usize::MAX, RECORD * text.len());
+        count += asked.listing(chance.below(text.len() + 2), chance.below(5), chance.below(4 * RECORD));
+        count += asked.listing(chance.boundary(text), chance.below(3), 4 * RECORD);
+        count += asked.listing(chance.boundary(text), usize::MAX, chance.below(3 * RECORD));
+    }
+    let mut place = Place::new();
+    place.move_over(text.as_bytes()).expect("a short text");
+    let expected = reading::expected_move([1, 1], text.as_bytes()).expect("a short text");
+    assert_eq!([place.line(), place.column()], expected, "bindings, the place of {}", shown(text.as_bytes()));
+    count + bytes(text.as_bytes())
+}
+
+/// Compares what is said of bytes that need not be a text.
+pub fn bytes(bytes: &[u8]) -> u64 {
+    let expected = std::str::from_utf8(bytes);
+    let numbers = |error: &ours::Utf8Error| (error.valid_up_to(), error.error_len(), error.to_string());
+    let original = expected.map(|_| ()).map_err(|error| (error.valid_up_to(), error.error_len(), error.to_string()));
+    let checked = ours::check_utf8(bytes);
+    assert_eq!(checked.map_err(|error| numbers(&error)), original, "bindings, check_utf8 of {}", shown(bytes));
+    assert_eq!(checked, expected.map(|_| ()).map_err(ours::Utf8Error::from), "bindings, an error of {}", shown(bytes));
+    let lexer = ours::Lexer::from_bytes(bytes).map_err(|error| refused(&error));
+    let lexer = lexer.map(|lexer| (lexer.input(), lexer.settings().allows_confusing_unicode()));
+    let expected = compare::turned(bytes, 0).map(|text| (text, false));
+    assert_eq!(lexer, expected, "bindings, from_bytes of {}", shown(bytes));
+    2
+}
+
+/// 1, for a text over the limit, and the longest text.
+pub fn limits() {
+    let mut text = " ".repeat(16_777_217);
+    let long = Refused { number: 1, values: [0, 0], place: 3 };
+    let from_bytes = |text: &str| ours::Lexer::from_bytes(text.as_bytes()).map_err(|error| refused(&error)).map(|_| ());
+    for lexer in lexers(&text, true) {
+        let mut position = 3;
+        assert_eq!((found(lexer.parse(&mut position)), position), (Found::Refused(long), 3));
+        assert_eq!(found(lexer.annotation(3)), Found::Refused(long));
+        assert_eq!(lexer.iter(3).next().map(|item| found(item.map(Some))), Some(Found::Refused(long)));
+        let listed = lexer.list(3, 9, &mut [0; 12]);
+        let ours::Stop::Error(error) = &listed.stop else { panic!("bindings: {listed:?}") };
+        assert_eq!((refused(error), listed.count, listed.position), (long, 0, 3));
+    }
+    assert_eq!(from_bytes(&text), Err(Refused { place: 0, ..long }));
+    text.pop();
+    assert_eq!(from_bytes(&text), Ok(()));
+    for lexer in lexers(&text, false) {
+        let all = Found::Token { kind: 3, offset: 0, len: 16_777_216 };
+        let mut position = 0;
+        assert_eq!((found(lexer.parse(&mut position)), position), (all, 16_777_216));
+        assert_eq!(lexer.iter(0).map(|item| found(item.map(Some))).collect::<Vec<_>>(), [all]);
     }
 }

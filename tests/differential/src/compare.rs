@@ -20,7 +20,7 @@ pub struct Counts {
     pub signs: u64,
     pub messages: u64,
     pub moves: u64,
-    /// tokens and errors of the Rust bindings
+    /// answers of the Rust bindings
     pub items: u64,
     /// how often each refusal was the answer for one token or of a reader
     pub refusals: BTreeMap<u64, u64>,
@@ -66,7 +66,7 @@ fn handed_out(token: oracle::readers::Token) -> Found {
     Found::Token { kind: token.kind().into(), offset: token.offset() as u64, len: token.len().into() }
 }
 
-fn expected_token(bytes: &[u8], flag: bool, position: usize) -> (Found, u64) {
+pub fn expected_token(bytes: &[u8], flag: bool, position: usize) -> (Found, u64) {
     let (found, after) = match turned(bytes, position) {
         Err(refused) => (Found::Refused(refused), position),
         Ok(text) => match Oracle::new(text, flag).parse(position) {
@@ -78,7 +78,7 @@ fn expected_token(bytes: &[u8], flag: bool, position: usize) -> (Found, u64) {
     (found, after as u64)
 }
 
-fn expected_annotation(bytes: &[u8], flag: bool, position: usize) -> Found {
+pub fn expected_annotation(bytes: &[u8], flag: bool, position: usize) -> Found {
     let text = match turned(bytes, 0) {
         Err(refused) => return Found::Refused(refused),
         Ok(text) => text,
@@ -90,7 +90,7 @@ fn expected_annotation(bytes: &[u8], flag: bool, position: usize) -> Found {
     }
 }
 
-fn expected_listing(bytes: &[u8], flag: bool, start: usize, budget: usize, list: &mut [u8]) -> Listed {
+pub fn expected_listing(bytes: &[u8], flag: bool, start: usize, budget: usize, list: &mut [u8]) -> Listed {
     let text = match turned(bytes, start) {
         Err(refused) => return Listed { stop: Stop::Refused(refused), count: 0, position: start as u64 },
         Ok(text) => text,

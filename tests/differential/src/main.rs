@@ -2,6 +2,7 @@
 
 mod bindings;
 mod compare;
+mod header;
 mod ours;
 mod reading;
 
@@ -27,6 +28,9 @@ const TELLING: [&str; 30] = [
     "(", ")", ";", "\"", "\\", "u", "{", "}", "0", "1", "x", "a", "f", "d", "8", "e", ".", "_", "+", "-", "n", "$",
     "@", ",", " ", "\n", "\r", "é", "\u{202e}", "\u{1}",
 ];
+
+/// The bindings are asked for texts of at most so many of these symbols.
+const MOST_OF_BINDINGS: usize = 3;
 
 /// The texts are shared out in so many parts, each with random numbers of its own, and the threads take one after the other: what is compared
 /// does not depend on the machine.
@@ -70,8 +74,8 @@ fn every(symbols: &[&[u8]], most: usize, text: &mut Vec<u8>, each: &mut impl FnM
 
 /// A text over the limit, and the longest text: refusal 1, and a listing to the end.
 fn limits(counts: &mut Counts) {
-    let mut text = vec![b' '; 16_777_217];
-    let long = ours::Refused { number: 1, values: [0, 0], place: 3 };
+    let mut text = vec![b' '; ours::c::MAX_TEXT as usize + 1];
+    let long = ours::Refused { number: ours::c::TOO_LONG, values: [0, 0], place: 3 };
     assert_eq!(ours::parse(&text, 0, 3), (ours::Found::Refused(long), 3));
     assert_eq!(ours::annotation(&text, 0, 3), ours::Found::Refused(long));
     let read = ours::read(&text, 0, [3, 3, 1], &mut []);
@@ -99,13 +103,21 @@ fn share(options: &Options, which: u64) -> Counts {
     every(&all, options.bytes, &mut Vec::new(), &mut |text| each(text, &mut counts, &mut chance));
     let telling = TELLING.map(str::as_bytes);
     every(&telling, options.symbols, &mut Vec::new(), &mut |text| each(text, &mut counts, &mut chance));
+    let mut turn = 0;
+    every(&telling, options.symbols.min(MOST_OF_BINDINGS), &mut Vec::new(), &mut |text| {
+        if turn % SHARES == which {
+            counts.items += bindings::text(std::str::from_utf8(text).expect("symbols are UTF-8"), turn);
+        }
+        turn += 1;
+    });
     for _ in (which..options.random).step_by(SHARES as usize) {
         let limit = [8, 24, 60, 200][chance.below(4)];
         let text = chance.text(limit);
         counts.text(text.as_bytes(), &mut chance);
-        counts.items += bindings::compare(&text, false) + bindings::compare(&text, true);
+        counts.items += bindings::text(&text, counts.texts);
         let bytes = chance.bytes(limit);
         counts.text(&bytes, &mut chance);
+        counts.items += bindings::bytes(&bytes);
     }
     counts
 }
@@ -117,7 +129,9 @@ fn main() -> ExitCode {
     };
     let began = Instant::now();
     let mut counts = Counts::default();
+    header::holds();
     limits(&mut counts);
+    bindings::limits();
     let next = AtomicU64::new(0);
     let work = || {
         let mut counts = Counts::default();
@@ -143,7 +157,7 @@ fn main() -> ExitCode {
          {messages} messages and {moves} moves of the place counter agree; {:.0} s",
         began.elapsed().as_secs_f64()
     );
-    println!("{items} tokens and errors of the Rust bindings agree");
+    println!("{items} answers of the Rust bindings agree");
     let seen = refusals.iter().map(|(number, count)| format!("{number}: {count}"));
     println!("refusals of tokens and readers by number: {}", seen.collect::<Vec<_>>().join(", "));
     ExitCode::SUCCESS

@@ -1,50 +1,23 @@
 //! Thallusweb's calls as C sees them (include/thallusweb.h), with their answers as values.
 
-unsafe extern "C" {
-    fn thallusweb_utf8_check(text: *const u8, len: usize, out: *mut u64);
-    fn thallusweb_parse(text: *const u8, len: usize, settings: u32, position: usize, out: *mut u64);
-    fn thallusweb_annotation(text: *const u8, len: usize, settings: u32, position: usize, out: *mut u64);
-    fn thallusweb_list(
-        text: *const u8,
-        len: usize,
-        settings: u32,
-        start: usize,
-        budget: usize,
-        list: *mut u8,
-        list_len: usize,
-        out: *mut u64,
-    );
-    fn thallusweb_read(
-        text: *const u8,
-        len: usize,
-        reader: u64,
-        token: *const u64,
-        buffer: *mut u8,
-        buffer_len: usize,
-        out: *mut u64,
-    );
-    fn thallusweb_part(
-        text: *const u8,
-        len: usize,
-        buffer: *const u8,
-        buffer_len: usize,
-        answer: *const u64,
-        out: *mut u64,
-    );
-    fn thallusweb_integer_sign(text: *const u8, len: usize, token: *const u64, out: *mut u64);
-    fn thallusweb_float_sign(text: *const u8, len: usize, token: *const u64, out: *mut u64);
-    fn thallusweb_message(number: u64, first: u64, second: u64, buffer: *mut u8, buffer_len: usize, out: *mut u64);
-    fn thallusweb_move(place: *mut u32, bytes: *const u8, len: usize) -> bool;
+/// The header's constants, without THALLUSWEB_, and its calls, as build.rs reads them. One that the comparison does not use is an error.
+#[deny(dead_code)]
+pub mod c {
+    include!(concat!(env!("OUT_DIR"), "/header.rs"));
+}
+
+pub fn version() -> u32 {
+    unsafe { c::thallusweb_version() }
 }
 
 /// The bit of a settings word by which confusing characters are allowed.
-pub const ALLOW_CONFUSING: u32 = 1;
+pub const ALLOW_CONFUSING: u32 = c::ALLOW_CONFUSING as u32;
 
 /// The bits of a settings word that are ignored. 2 is left out: it is kept for a setting to come.
 pub const IGNORED: u32 = 0xffff_fffc;
 
 /// A token as a call takes it: its kind, offset and length.
-pub type Words = [u64; 3];
+pub type Words = [u64; c::TOKEN_WORDS as usize];
 
 /// What a reader's first call answers.
 #[derive(Clone, Copy, Debug, PartialEq, Eq)]
@@ -91,9 +64,9 @@ pub struct Listed {
 const UNTOUCHED: u64 = 0xdead_beef_dead_beef;
 
 /// The answer of `call`, which writes `N` words and no more.
-fn words<const N: usize>(call: impl FnOnce(*mut u64)) -> [u64; N] {
+fn words<const N: usize>(call: impl FnOnce(*mut [u64; N])) -> [u64; N] {
     let mut all = [UNTOUCHED; 16];
-    call(all[4..].as_mut_ptr());
+    call(all[4..].as_mut_ptr().cast());
     let written = std::array::from_fn(|i| all[4 + i]);
     assert!(
         all[..4].iter().chain(&all[4 + N..]).all(|&word| word == UNTOUCHED),
@@ -104,44 +77,46 @@ fn words<const N: usize>(call: impl FnOnce(*mut u64)) -> [u64; N] {
 
 fn found([what, number, place, first, second]: [u64; 5]) -> Found {
     match (what, second) {
-        (0, 0) => Found::Nothing,
-        (1, 0) => Found::Token { kind: number, offset: place, len: first },
-        (2, _) => Found::Refused(Refused { number, values: [first, second], place }),
+        (c::NOTHING, 0) => Found::Nothing,
+        (c::TOKEN, 0) => Found::Token { kind: number, offset: place, len: first },
+        (c::REFUSED, _) => Found::Refused(Refused { number, values: [first, second], place }),
         _ => panic!("no answer has the words {what} {number} {place} {first} {second}"),
     }
 }
 
 /// Well formed, or the two numbers of a refusal by 2.
 pub fn utf8_check(text: &[u8]) -> Result<(), [u64; 2]> {
-    match words(|out| unsafe { thallusweb_utf8_check(text.as_ptr(), text.len(), out) }) {
+    let call = |out| unsafe { c::thallusweb_utf8_check(text.as_ptr(), text.len(), out) };
+    match words::<{ c::UTF8_WORDS as usize }>(call) {
         [0, 0, 0] => Ok(()),
-        [2, valid, error] => Err([valid, error]),
+        [c::REFUSED, valid, error] => Err([valid, error]),
         other => panic!("no answer has the words {other:?}"),
     }
 }
 
 /// One token at a position, and the position afterwards.
 pub fn parse(text: &[u8], settings: u32, position: usize) -> (Found, u64) {
-    let call = |out| unsafe { thallusweb_parse(text.as_ptr(), text.len(), settings, position, out) };
-    let [a, b, c, d, e, after] = words(call);
-    (found([a, b, c, d, e]), after)
+    let call = |out| unsafe { c::thallusweb_parse(text.as_ptr(), text.len(), settings, position, out) };
+    let [what, number, place, first, second, after] = words::<{ c::PARSE_WORDS as usize }>(call);
+    (found([what, number, place, first, second]), after)
 }
 
 pub fn annotation(text: &[u8], settings: u32, position: usize) -> Found {
-    found(words(|out| unsafe { thallusweb_annotation(text.as_ptr(), text.len(), settings, position, out) }))
+    let call = |out| unsafe { c::thallusweb_annotation(text.as_ptr(), text.len(), settings, position, out) };
+    found(words::<{ c::ANNOTATION_WORDS as usize }>(call))
 }
 
 pub fn list(text: &[u8], settings: u32, start: usize, budget: usize, list: &mut [u8]) -> Listed {
     let call = |out| unsafe {
         let (list, room) = (list.as_mut_ptr(), list.len());
-        thallusweb_list(text.as_ptr(), text.len(), settings, start, budget, list, room, out)
+        c::thallusweb_list(text.as_ptr(), text.len(), settings, start, budget, list, room, out)
     };
-    let [why, number, place, first, second, count, position] = words(call);
+    let [why, number, place, first, second, count, position] = words::<{ c::LIST_WORDS as usize }>(call);
     let stop = match (why, number) {
-        (0, 0) => Stop::End,
-        (1, 0) => Stop::Budget,
-        (2, _) => Stop::Refused(Refused { number, values: [first, second], place }),
-        (3, 33) => Stop::Full,
+        (c::END, 0) => Stop::End,
+        (c::BUDGET, 0) => Stop::Budget,
+        (c::REFUSED, _) => Stop::Refused(Refused { number, values: [first, second], place }),
+        (c::FULL, c::LIST_FULL) => Stop::Full,
         _ => panic!("no listing stops by {why}, {number}"),
     };
     Listed { stop, count, position }
@@ -150,13 +125,15 @@ pub fn list(text: &[u8], settings: u32, start: usize, budget: usize, list: &mut 
 pub fn read(text: &[u8], reader: u64, token: Words, buffer: &mut [u8]) -> Reading {
     let call = |out| unsafe {
         let (buffer, room) = (buffer.as_mut_ptr(), buffer.len());
-        thallusweb_read(text.as_ptr(), text.len(), reader, token.as_ptr(), buffer, room, out)
+        c::thallusweb_read(text.as_ptr(), text.len(), reader, &token, buffer, room, out)
     };
-    match words(call) {
-        [0, 0, 0, 0, 0] => Reading::Absent,
-        [1, start, len, 0, 0] => Reading::Text { start, len },
-        [2, number, place, first, second] => Reading::Refused(Refused { number, values: [first, second], place }),
-        [3, start, len, 0, 0] => Reading::Buffer { start, len },
+    match words::<{ c::READ_WORDS as usize }>(call) {
+        [c::ABSENT, 0, 0, 0, 0] => Reading::Absent,
+        [c::IN_TEXT, start, len, 0, 0] => Reading::Text { start, len },
+        [c::REFUSED, number, place, first, second] => {
+            Reading::Refused(Refused { number, values: [first, second], place })
+        }
+        [c::IN_BUFFER, start, len, 0, 0] => Reading::Buffer { start, len },
         other => panic!("no reader answers {other:?}"),
     }
 }
@@ -164,35 +141,36 @@ pub fn read(text: &[u8], reader: u64, token: Words, buffer: &mut [u8]) -> Readin
 /// The second call, for any words as the first call's answer.
 pub fn part(text: &[u8], buffer: &[u8], answer: [u64; 5]) -> [u64; 3] {
     let (room, len) = (buffer.len(), text.len());
-    words(|out| unsafe { thallusweb_part(text.as_ptr(), len, buffer.as_ptr(), room, answer.as_ptr(), out) })
+    let call = |out| unsafe { c::thallusweb_part(text.as_ptr(), len, buffer.as_ptr(), room, &answer, out) };
+    words::<{ c::PART_WORDS as usize }>(call)
 }
 
-fn sign(answer: [u64; 5]) -> Result<Option<u64>, Refused> {
+fn sign(answer: [u64; c::SIGN_WORDS as usize]) -> Result<Option<u64>, Refused> {
     match answer {
-        [0, 0, 0, 0, 0] => Ok(None),
-        [1, sign, 0, 0, 0] => Ok(Some(sign)),
-        [2, number, place, first, second] => Err(Refused { number, values: [first, second], place }),
+        [c::ABSENT, 0, 0, 0, 0] => Ok(None),
+        [c::TOLD, sign, 0, 0, 0] => Ok(Some(sign)),
+        [c::REFUSED, number, place, first, second] => Err(Refused { number, values: [first, second], place }),
         other => panic!("no sign has the words {other:?}"),
     }
 }
 
-/// 0 for none, 1 for `+`, 2 for `-`.
+/// `SIGN_NONE`, `SIGN_PLUS` or `SIGN_MINUS`.
 pub fn integer_sign(text: &[u8], token: Words) -> Result<Option<u64>, Refused> {
-    sign(words(|out| unsafe { thallusweb_integer_sign(text.as_ptr(), text.len(), token.as_ptr(), out) }))
+    sign(words(|out| unsafe { c::thallusweb_integer_sign(text.as_ptr(), text.len(), &token, out) }))
 }
 
 /// 1 for a negative float, 0 for another; nothing for a float whose sign is in its integral part.
 pub fn float_sign(text: &[u8], token: Words) -> Result<Option<u64>, Refused> {
-    sign(words(|out| unsafe { thallusweb_float_sign(text.as_ptr(), text.len(), token.as_ptr(), out) }))
+    sign(words(|out| unsafe { c::thallusweb_float_sign(text.as_ptr(), text.len(), &token, out) }))
 }
 
 /// The length of the message, or the number of a refusal.
 pub fn message(number: u64, values: [u64; 2], buffer: &mut [u8]) -> Result<u64, u64> {
     let call =
-        |out| unsafe { thallusweb_message(number, values[0], values[1], buffer.as_mut_ptr(), buffer.len(), out) };
-    match words(call) {
-        [1, len, 0, 0, 0] => Ok(len),
-        [2, number, 0, 0, 0] => Err(number),
+        |out| unsafe { c::thallusweb_message(number, values[0], values[1], buffer.as_mut_ptr(), buffer.len(), out) };
+    match words::<{ c::MESSAGE_WORDS as usize }>(call) {
+        [c::TOLD, len, 0, 0, 0] => Ok(len),
+        [c::REFUSED, number, 0, 0, 0] => Err(number),
         other => panic!("no message has the words {other:?}"),
     }
 }
@@ -200,7 +178,7 @@ pub fn message(number: u64, values: [u64; 2], buffer: &mut [u8]) -> Result<u64, 
 /// The counter afterwards, or nothing where the move is refused by 35 and left it as it was.
 pub fn move_over(place: [u32; 2], bytes: &[u8]) -> Option<[u32; 2]> {
     let mut after = [7, place[0], place[1], 7];
-    let moved = unsafe { thallusweb_move(after[1..].as_mut_ptr(), bytes.as_ptr(), bytes.len()) };
+    let moved = unsafe { c::thallusweb_move(after[1..].as_mut_ptr().cast(), bytes.as_ptr(), bytes.len()) };
     assert_eq!((after[0], after[3]), (7, 7), "a number beside the counter was written");
     let after = [after[1], after[2]];
     assert!(moved || after == place, "a refused move changed the counter");
