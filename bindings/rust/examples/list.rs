@@ -1,6 +1,7 @@
 //! Lists the tokens of a file, each with its line and column: `cargo run --example list FILE`.
 
 use std::io::{self, BufWriter, Write};
+use std::path::PathBuf;
 use std::process::ExitCode;
 use thallusweb::lexer::Lexer;
 use thallusweb::{Error, Place};
@@ -11,6 +12,7 @@ fn list(bytes: &[u8], out: &mut impl Write) -> io::Result<Result<(), (Place, Err
         Ok(lexer) => lexer,
         Err(error) => return Ok(Err((place, error))),
     };
+    // `iter` hands the library one window of the text after the other: all takes as long as the text is
     for token in lexer.iter(0) {
         match token {
             Ok(token) => {
@@ -29,7 +31,7 @@ fn list(bytes: &[u8], out: &mut impl Write) -> io::Result<Result<(), (Place, Err
 }
 
 fn main() -> ExitCode {
-    let Some(file) = std::env::args_os().nth(1) else {
+    let Some(file) = std::env::args_os().nth(1).map(PathBuf::from) else {
         eprintln!("usage: list FILE");
         return ExitCode::from(2);
     };

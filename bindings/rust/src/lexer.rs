@@ -1,6 +1,8 @@
 //! Lexer and tokens, under the names of `wast::lexer`.
 
+pub use crate::iter::Iter;
 use crate::refusal::{Error, Refusal};
+use crate::window::{self, is_decided, refused, window};
 use crate::{Place, Settings, ffi};
 use std::borrow::Cow;
 use std::fmt;
@@ -32,8 +34,11 @@ pub enum TokenKind {
     BlockComment,
     /// Spaces, tabs and line ends.
     Whitespace,
+    /// `(`
     LParen,
+    /// `)`
     RParen,
+    /// `"` to `"`.
     String,
     /// `$` and a name.
     Id,
@@ -43,7 +48,9 @@ pub enum TokenKind {
     Annotation,
     /// A run that is nothing else.
     Reserved,
+    /// A whole number; [`Token::integer`] takes what it carries.
     Integer(IntegerKind),
+    /// Any other number; [`Token::float`] takes what it carries.
     Float(FloatKind),
 }
 
@@ -55,7 +62,7 @@ pub struct IntegerKind {
     hex: bool,
 }
 
-/// How a float is written.
+/// How a float is written. A `Normal` has its sign in its digits.
 #[allow(missing_docs)]
 #[derive(Clone, Copy, Debug, PartialEq)]
 pub enum FloatKind {
@@ -68,28 +75,44 @@ pub enum FloatKind {
 /// The sign of an integer.
 #[derive(Clone, Copy, Debug, PartialEq, Eq)]
 pub enum SignToken {
+    /// `+`
     Plus,
+    /// `-`
     Minus,
 }
 
-/// Errors of lexing, and of names.
-#[allow(missing_docs)]
+/// Errors of lexing, and of names. `Display` is wast's message.
 #[derive(Debug, Clone, PartialEq, Eq)]
 #[non_exhaustive]
 pub enum LexError {
+    /// A block comment is never closed.
     DanglingBlockComment,
+    /// No token begins with the character.
     Unexpected(char),
+    /// A control character stands raw in a string.
     InvalidStringElement(char),
+    /// No escape has the character behind its `\`.
     InvalidStringEscape(char),
+    /// An escape wants a hexadecimal digit.
     InvalidHexDigit(char),
+    /// An escape `\u{..}` wants a brace.
+    #[allow(missing_docs)]
     Expected { wanted: char, found: char },
+    /// The text ends inside a string.
     UnexpectedEof,
+    /// The number of a `\u{..}` does not fit 32 bits.
     NumberTooBig,
+    /// The number of a `\u{..}` is no Unicode scalar value.
     InvalidUnicodeValue(u32),
+    /// No digit follows an underscore.
     LoneUnderscore,
+    /// A character that turns the direction of text stands raw in a string or comment, and is not allowed.
     ConfusingUnicode(char),
+    /// A name is not UTF-8; the numbers are those of the decoded name.
     InvalidUtf8Id(Utf8Error),
+    /// The name of an Id is empty.
     EmptyId,
+    /// The name of an Annotation is empty.
     EmptyAnnotation,
 }
 
@@ -97,36 +120,39 @@ pub enum LexError {
 #[derive(Debug, Clone, Copy, PartialEq, Eq)]
 pub struct Utf8Error {
     valid_up_to: usize,
-    error_len: u8,
+    error_len: Option<u8>,
 }
 
 impl Utf8Error {
     pub(crate) fn from_words([valid_up_to, error_len]: [u64; 2]) -> Utf8Error {
-        Utf8Error { valid_up_to: valid_up_to as usize, error_len: error_len as u8 }
+        let error_len = if error_len == 0 { None } else { Some(error_len as u8) };
+        Utf8Error { valid_up_to: valid_up_to as usize, error_len }
     }
 
     /// How many bytes are UTF-8.
+    #[must_use]
     pub fn valid_up_to(&self) -> usize {
         self.valid_up_to
     }
 
     /// How many bytes after these are wrong; nothing where the bytes end inside a character.
+    #[must_use]
     pub fn error_len(&self) -> Option<usize> {
-        if self.error_len == 0 { None } else { Some(self.error_len.into()) }
+        self.error_len.map(usize::from)
     }
 }
 
 impl From<std::str::Utf8Error> for Utf8Error {
     fn from(error: std::str::Utf8Error) -> Utf8Error {
-        Utf8Error { valid_up_to: error.valid_up_to(), error_len: error.error_len().unwrap_or(0) as u8 }
+        Utf8Error { valid_up_to: error.valid_up_to(), error_len: error.error_len().map(|len| len as u8) }
     }
 }
 
 impl fmt::Display for Utf8Error {
     fn fmt(&self, f: &mut fmt::Formatter<'_>) -> fmt::Result {
         match self.error_len {
-            0 => write!(f, "incomplete utf-8 byte sequence from index {}", self.valid_up_to),
-            n => write!(f, "invalid utf-8 sequence of {n} bytes from index {}", self.valid_up_to),
+            None => write!(f, "incomplete utf-8 byte sequence from index {}", self.valid_up_to),
+            Some(n) => write!(f, "invalid utf-8 sequence of {n} bytes from index {}", self.valid_up_to),
         }
     }
 }
@@ -149,7 +175,7 @@ impl LexError {
             LexError::InvalidUnicodeValue(n) => (19, [n.into(), 0]),
             LexError::LoneUnderscore => (20, [0, 0]),
             LexError::ConfusingUnicode(c) => (21, char(c)),
-            LexError::InvalidUtf8Id(error) => (22, [error.valid_up_to as u64, error.error_len.into()]),
+            LexError::InvalidUtf8Id(error) => (22, [error.valid_up_to as u64, error.error_len.unwrap_or(0).into()]),
             LexError::EmptyId => (23, [0, 0]),
             LexError::EmptyAnnotation => (24, [0, 0]),
         }
@@ -184,6 +210,7 @@ const HEX: u64 = 2048;
 
 impl TokenKind {
     /// The number that the C calls and token records have for a kind.
+    #[must_use]
     pub fn number(self) -> u64 {
         let flag = |is: bool, n: u64| if is { n } else { 0 };
         match self {
@@ -216,10 +243,18 @@ impl TokenKind {
         }
     }
 
-    /// The kind with a number, which is one that the library gave.
-    fn from_number(number: u64) -> TokenKind {
+    /// The kind that has a number; nothing where none has it.
+    ///
+    /// ```
+    /// use thallusweb::lexer::TokenKind;
+    ///
+    /// assert_eq!(TokenKind::from_number(4), Some(TokenKind::LParen));
+    /// assert_eq!(TokenKind::from_number(4 + 2048), None); // no hexadecimal parenthesis
+    /// ```
+    #[must_use]
+    pub fn from_number(number: u64) -> Option<TokenKind> {
         let [plus, negative, has_underscores, hex] = [PLUS, MINUS, UNDERSCORES, HEX].map(|flag| number & flag != 0);
-        match number % 256 {
+        let kind = match number % 256 {
             1 => TokenKind::LineComment,
             2 => TokenKind::BlockComment,
             3 => TokenKind::Whitespace,
@@ -229,6 +264,7 @@ impl TokenKind {
             7 => TokenKind::Id,
             8 => TokenKind::Keyword,
             9 => TokenKind::Annotation,
+            10 => TokenKind::Reserved,
             11 => {
                 let sign = match (plus, negative) {
                     (true, _) => Some(SignToken::Plus),
@@ -241,12 +277,23 @@ impl TokenKind {
             13 => TokenKind::Float(FloatKind::Nan { negative }),
             14 => TokenKind::Float(FloatKind::NanVal { negative, has_underscores }),
             15 => TokenKind::Float(FloatKind::Normal { has_underscores, hex }),
-            _ => TokenKind::Reserved,
-        }
+            _ => return None,
+        };
+        // bits that the kind does not have are no part of its own number
+        (kind.number() == number).then_some(kind)
+    }
+
+    /// The kind with a number that the library gave, which is one that a kind has.
+    pub(crate) fn given(number: u64) -> TokenKind {
+        TokenKind::from_number(number).unwrap_or(TokenKind::Reserved)
     }
 }
 
-/// Whether bytes are UTF-8, by the proved check: the counterpart of `std::str::from_utf8`.
+/// Whether bytes, however many, are UTF-8, by the proved check: the counterpart of `std::str::from_utf8`.
+///
+/// # Errors
+///
+/// Where they are not, from which byte on.
 pub fn check_utf8(bytes: &[u8]) -> Result<(), Utf8Error> {
     match ffi::utf8_check(bytes) {
         [0, ..] => Ok(()),
@@ -255,10 +302,10 @@ pub fn check_utf8(bytes: &[u8]) -> Result<(), Utf8Error> {
 }
 
 /// What a call for one token answers.
-fn found([what, number, place, first, second]: [u64; 5]) -> Result<Option<Token>, Error> {
+pub(crate) fn found([what, number, place, first, second]: [u64; 5]) -> Result<Option<Token>, Error> {
     match what {
         0 => Ok(None),
-        1 => Ok(Some(Token { kind: TokenKind::from_number(number), offset: place as usize, len: first as u32 })),
+        1 => Ok(Some(Token { kind: TokenKind::given(number), offset: place as usize, len: first as u32 })),
         _ => Err(Error::from_words([number, place, first, second])),
     }
 }
@@ -271,16 +318,22 @@ impl<'a> Lexer<'a> {
     pub const RECORD: usize = 6;
 
     /// A lexer of a text, which refuses confusing characters.
+    #[must_use]
     pub fn new(input: &str) -> Lexer<'_> {
         Lexer::with_settings(input, Settings::new())
     }
 
     /// A lexer of a text, with settings that [`Settings::new`] and its methods build.
+    #[must_use]
     pub fn with_settings(input: &str, settings: Settings) -> Lexer<'_> {
         Lexer { input, settings }
     }
 
-    /// A lexer of bytes, refused where they are too many or not UTF-8.
+    /// A lexer of bytes, which refuses confusing characters.
+    ///
+    /// # Errors
+    ///
+    /// [`Refusal::TooLong`] where they are more than [`Lexer::MAX_TEXT`], and [`Refusal::NotUtf8`].
     pub fn from_bytes(bytes: &[u8]) -> Result<Lexer<'_>, Error> {
         if bytes.len() > Self::MAX_TEXT {
             return Err(Error::new(Refusal::TooLong, Some(0)));
@@ -292,11 +345,13 @@ impl<'a> Lexer<'a> {
     }
 
     /// The text.
+    #[must_use]
     pub fn input(&self) -> &'a str {
         self.input
     }
 
     /// The settings.
+    #[must_use]
     pub fn settings(&self) -> Settings {
         self.settings
     }
@@ -308,7 +363,7 @@ impl<'a> Lexer<'a> {
     }
 
     /// The token at a position, which is then moved past it; nothing at the end of the text. After an error the position is where
-    /// wast leaves it. Checks the whole text at each call.
+    /// wast leaves it. Takes the time of the token and not of the text.
     ///
     /// ```
     /// use thallusweb::lexer::{Lexer, TokenKind};
@@ -318,20 +373,47 @@ impl<'a> Lexer<'a> {
     /// assert_eq!((token.kind, position), (TokenKind::LParen, 1));
     /// # Ok::<(), thallusweb::Error>(())
     /// ```
+    ///
+    /// # Errors
+    ///
+    /// [`Refusal::Lex`] where the text does not lex there, with the position where lexing may go on; after an open comment and an
+    /// unexpected character that is the position given, and so it is for a text over [`Lexer::MAX_TEXT`], a position past the end and one
+    /// inside a character: the same call is refused again.
     pub fn parse(&self, position: &mut usize) -> Result<Option<Token>, Error> {
-        let [a, b, c, d, e, after] = ffi::parse(self.input.as_bytes(), self.settings.word(), *position);
-        *position = after as usize;
-        found([a, b, c, d, e])
+        self.parse_by(position, window::FIRST)
     }
 
-    /// The tokens from a position on. An error is an item, and the tokens behind it follow, as in wast, which also means that the first item
-    /// after an open comment or an unexpected character is the same error again.
+    /// By windows that begin with a size.
+    pub(crate) fn parse_by(&self, position: &mut usize, mut size: usize) -> Result<Option<Token>, Error> {
+        let start = *position;
+        if let Some(error) = refused(self.input, start) {
+            return Err(error);
+        }
+        loop {
+            let window = window(self.input, start, size);
+            let [a, b, c, d, e, after] = ffi::parse(window.as_bytes(), self.settings.word(), 0);
+            let found = found([a, b, c, d, e]);
+            let after = after as usize;
+            if start + window.len() == self.input.len() || is_decided(found.as_ref().err(), after, window) {
+                *position = start + after;
+                return match found {
+                    Ok(token) => Ok(token.map(|token| Token { offset: start + token.offset, ..token })),
+                    Err(error) => Err(error.moved(start)),
+                };
+            }
+            size *= 2;
+        }
+    }
+
+    /// The tokens from a position on. An error is an item, and the tokens behind it follow, as in wast, which also means that the first
+    /// item after an open comment or an unexpected character is the same error again. A text over [`Lexer::MAX_TEXT`] and a position past
+    /// the end or inside a character are such an error too.
     pub fn iter(&self, position: usize) -> Iter<'a> {
-        Iter { lexer: *self, position, offset: position, records: Vec::new(), next: 0, stop: Stop::Budget, budget: 64 }
+        Iter::new(*self, position)
     }
 
-    /// The tokens from a start on, at most `budget` of them, as records of six bytes in a lent list ([`Lexer::RECORD`]): the length in four and the
-    /// kind's number in two, the least byte first. Bytes past the records stay. The text is checked once.
+    /// The tokens from a start on, at most `budget` of them, as records of six bytes in a lent list ([`Lexer::RECORD`]): the length in
+    /// four and the kind's number in two, the least byte first. Bytes past the records stay. The text is checked once.
     ///
     /// ```
     /// use thallusweb::lexer::{Lexer, Stop};
@@ -353,12 +435,33 @@ impl<'a> Lexer<'a> {
         Listed { stop, count: count as usize, position: position as usize }
     }
 
-    /// The annotation at a position, if an `@` stands there and begins one.
+    /// The annotation at a position, if an `@` stands there and begins one; nothing elsewhere, past the end too. Takes the time of the
+    /// token and not of the text.
+    ///
+    /// # Errors
+    ///
+    /// Where an `@` stands and [`Lexer::parse`] is refused, and for a text over [`Lexer::MAX_TEXT`].
     pub fn annotation(&self, position: usize) -> Result<Option<Token>, Error> {
-        found(ffi::annotation(self.input.as_bytes(), self.settings.word(), position))
+        self.annotation_by(position, window::FIRST)
+    }
+
+    /// By windows that begin with a size. Follows `Annotates` of crates/wat/specs/Calls.antt.
+    pub(crate) fn annotation_by(&self, mut position: usize, size: usize) -> Result<Option<Token>, Error> {
+        if self.input.len() > Self::MAX_TEXT {
+            return Err(Error::new(Refusal::TooLong, Some(position)));
+        }
+        if self.input.as_bytes().get(position) != Some(&b'@') {
+            return Ok(None);
+        }
+        let token = self.parse_by(&mut position, size)?;
+        Ok(token.filter(|token| token.kind == TokenKind::Annotation))
     }
 
     /// The place of a position in the text: counts from the text's start, so that it is for error messages.
+    ///
+    /// # Errors
+    ///
+    /// [`Refusal::PastEnd`], and [`Refusal::CounterFull`] where line or column does not fit 32 bits.
     pub fn place(&self, position: usize) -> Result<Place, Error> {
         let Some(before) = self.input.as_bytes().get(..position) else {
             return Err(Error::new(Refusal::PastEnd, Some(position)));
@@ -376,6 +479,7 @@ pub enum Stop {
     End,
     /// As many tokens as were asked for.
     Budget,
+    /// The text does not lex there, or text or start are refused.
     Error(Error),
     /// No room for the next token.
     Full,
@@ -383,70 +487,14 @@ pub enum Stop {
 
 /// What a listing reports.
 #[derive(Clone, Debug, PartialEq, Eq)]
+#[must_use = "a listing may stop at an error, or before the end"]
 pub struct Listed {
+    /// Why it stopped.
     pub stop: Stop,
     /// How many tokens were handed out.
     pub count: usize,
     /// Where the first token not handed out starts, or where an error leaves the position.
     pub position: usize,
-}
-
-/// Tokens one after the other: see [`Lexer::iter`]. The text is checked once for every few thousand of them.
-#[derive(Clone, Debug)]
-pub struct Iter<'a> {
-    lexer: Lexer<'a>,
-    /// where the next listing starts
-    position: usize,
-    /// where the next token of the listing starts
-    offset: usize,
-    records: Vec<u8>,
-    next: usize,
-    stop: Stop,
-    budget: usize,
-}
-
-impl Iter<'_> {
-    /// Lists some more tokens.
-    fn fill(&mut self) {
-        self.records.resize(Lexer::RECORD * self.budget, 0);
-        let listed = self.lexer.list(self.position, self.budget, &mut self.records);
-        self.records.truncate(Lexer::RECORD * listed.count);
-        self.next = 0;
-        self.offset = self.position;
-        self.position = listed.position;
-        self.stop = listed.stop;
-        self.budget = (2 * self.budget).min(1 << 14);
-    }
-
-    /// The next token of the listing.
-    fn record(&mut self) -> Option<Token> {
-        let &[a, b, c, d, e, f] = self.records.get(self.next..)?.first_chunk::<{ Lexer::RECORD }>()?;
-        let len = u32::from_le_bytes([a, b, c, d]);
-        let token = Token { kind: TokenKind::from_number(u16::from_le_bytes([e, f]).into()), offset: self.offset, len };
-        self.next += Lexer::RECORD;
-        self.offset += len as usize;
-        Some(token)
-    }
-}
-
-impl Iterator for Iter<'_> {
-    type Item = Result<Token, Error>;
-
-    fn next(&mut self) -> Option<Result<Token, Error>> {
-        loop {
-            if let Some(token) = self.record() {
-                return Some(Ok(token));
-            }
-            match std::mem::replace(&mut self.stop, Stop::Budget) {
-                Stop::Budget | Stop::Full => self.fill(),
-                Stop::Error(error) => return Some(Err(error)),
-                Stop::End => {
-                    self.stop = Stop::End;
-                    return None;
-                }
-            }
-        }
-    }
 }
 
 /// What can be read of a token.
@@ -462,10 +510,13 @@ pub enum Reader {
     Annotation,
     /// The digits of an Integer.
     Integer,
-    /// The parts of a Float.
+    /// The digits before a Float's point, with its `-`.
     Integral,
+    /// Those behind its point, if there are any.
     Fraction,
+    /// Those of its exponent, with its `-`, if it has one.
     Exponent,
+    /// Those of a NaN's payload, if it has one.
     Payload,
 }
 
@@ -479,17 +530,20 @@ pub struct Integer<'a> {
 
 impl Integer<'_> {
     /// The sign as it is written.
+    #[must_use]
     pub fn sign(&self) -> Option<SignToken> {
         self.sign
     }
 
     /// The digits, with their `-`, and their base.
+    #[must_use]
     pub fn val(&self) -> (&str, u32) {
         (&self.val, if self.hex { 16 } else { 10 })
     }
 }
 
 /// A float's parts.
+#[allow(missing_docs)]
 #[derive(Debug, PartialEq, Eq)]
 pub enum Float<'a> {
     /// `nan`, or `nan:0x..` with the digits of its payload.
@@ -522,6 +576,11 @@ impl Token {
     /// assert_eq!(token.read(text, Reader::Id).unwrap_err().refusal(), &Refusal::NotThatKind);
     /// # Ok::<(), thallusweb::Error>(())
     /// ```
+    ///
+    /// # Errors
+    ///
+    /// [`Refusal::NotThatToken`] where the text has no such token there, [`Refusal::NotThatKind`] where the reader takes other kinds, and a
+    /// [`Refusal::Lex`] at the token's offset where a name is empty or not UTF-8.
     pub fn read<'a>(&self, s: &'a str, reader: Reader) -> Result<Option<Cow<'a, [u8]>>, Error> {
         let not_there = || Error::new(Refusal::NotThatToken, None);
         let end = self.offset.checked_add(self.len as usize).ok_or_else(not_there)?;
@@ -542,11 +601,7 @@ impl Token {
                 buffer.truncate(part.end);
                 Ok(Some(Cow::Owned(buffer)))
             }
-            _ => {
-                let error = Error::from_words([start, len, first, second]);
-                let place = error.place().map(|place| self.offset + place);
-                Err(Error::new(error.refusal().clone(), place))
-            }
+            _ => Err(Error::from_words([start, len, first, second]).moved(self.offset)),
         }
     }
 
@@ -559,44 +614,69 @@ impl Token {
     }
 
     /// The token's own bytes; empty where the text has none such.
+    #[must_use]
     pub fn src<'a>(&self, s: &'a str) -> &'a str {
         self.offset.checked_add(self.len as usize).and_then(|end| s.get(self.offset..end)).unwrap_or_default()
     }
 
     /// The name of an Id, without its `$`.
+    ///
+    /// # Errors
+    ///
+    /// Where the name is empty or not UTF-8, and where the token is none, as [`Token::read`] has it.
     pub fn id<'a>(&self, s: &'a str) -> Result<Cow<'a, str>, Error> {
         self.name(s, Reader::Id)
     }
 
     /// The name of an Annotation, without its `@`.
+    ///
+    /// # Errors
+    ///
+    /// Where the name is empty or not UTF-8, and where the token is none, as [`Token::read`] has it.
     pub fn annotation<'a>(&self, s: &'a str) -> Result<Cow<'a, str>, Error> {
         self.name(s, Reader::Annotation)
     }
 
     /// The bytes of a Keyword.
+    #[must_use]
     pub fn keyword<'a>(&self, s: &'a str) -> &'a str {
         self.src(s)
     }
 
     /// The bytes of a Reserved token.
+    #[must_use]
     pub fn reserved<'a>(&self, s: &'a str) -> &'a str {
         self.src(s)
     }
 
-    /// The bytes that a String stands for; empty where the token is none.
-    pub fn string<'a>(&self, s: &'a str) -> Cow<'a, [u8]> {
-        self.read(s, Reader::String).ok().flatten().unwrap_or_default()
+    /// Whether the text has the token: asked only where debug assertions are on.
+    fn is_there(&self, s: &str) -> bool {
+        self.read(s, Reader::Src).is_ok()
     }
 
-    /// An Integer's sign and digits; no digits where the token is none.
+    /// The bytes that a String stands for. A token that is none fails a debug assertion; without these its bytes are empty.
+    #[must_use]
+    pub fn string<'a>(&self, s: &'a str) -> Cow<'a, [u8]> {
+        let value = self.read(s, Reader::String);
+        debug_assert!(value.is_ok(), "{self:?} is no String of the text: {value:?}");
+        value.ok().flatten().unwrap_or_default()
+    }
+
+    /// An Integer's sign and digits; the kind is what its [`TokenKind`] carries. A token that is none fails a debug assertion; without
+    /// these it has no digits.
+    #[must_use]
     pub fn integer<'a>(&self, s: &'a str, kind: IntegerKind) -> Integer<'a> {
         let token = Token { kind: TokenKind::Integer(kind), ..*self };
+        debug_assert!(token.is_there(s), "{token:?} is no token of the text");
         Integer { sign: kind.sign, val: token.part(s, Reader::Integer).unwrap_or_default(), hex: kind.hex }
     }
 
-    /// A Float's parts; empty where the token is none.
+    /// A Float's parts; the kind is what its [`TokenKind`] carries. A token that is none fails a debug assertion; without these its parts
+    /// are empty.
+    #[must_use]
     pub fn float<'a>(&self, s: &'a str, kind: FloatKind) -> Float<'a> {
         let token = Token { kind: TokenKind::Float(kind), ..*self };
+        debug_assert!(token.is_there(s), "{token:?} is no token of the text");
         match kind {
             FloatKind::Inf { negative } => Float::Inf { negative },
             FloatKind::Nan { negative } => Float::Nan { val: None, negative },

@@ -24,25 +24,38 @@
 //!
 //! What differs, and why:
 //!
-//! * Nothing panics. A position past the end or inside a character, a token that is not there, and a text over 16 MiB are refused
-//!   ([`Refusal`]), where wast panics or goes on.
-//! * [`lexer::Token::src`], [`string`](lexer::Token::string), [`integer`](lexer::Token::integer) and [`float`](lexer::Token::float) have no
-//!   error to give, as in wast: of a token that is not there they give what is empty. [`lexer::Token::read`] says why.
-//! * [`Error`] has a [`Refusal`] and a place in bytes, and no excerpt; [`Place`] counts lines and columns.
-//! * [`Settings`] is a value that a builder makes and [`lexer::Lexer::with_settings`] takes, so that it can be a constant and serve many texts;
-//!   [`lexer::Lexer::allow_confusing_unicode`] is there as in wast.
-//! * [`lexer::Lexer::parse`] checks at each call that the whole text is UTF-8, which is fast but not free; [`lexer::Lexer::iter`] does so once
-//!   for thousands of tokens. The readers take just the token's own bytes, which is proved to give the same.
+//! * No text and no position makes a call panic, and no token without debug assertions. A position past the end or inside a character, a
+//!   token that is not there, and a text over 16 MiB are refused ([`Refusal`]), where wast panics or goes on.
+//! * [`lexer::Token::src`], [`string`](lexer::Token::string), [`integer`](lexer::Token::integer) and [`float`](lexer::Token::float) have
+//!   no error to give, as in wast: of a token that is not there they give what is empty, and [`lexer::Token::read`] says why. For the last
+//!   three such a token is a mistake of the program, and fails a `debug_assert!`.
+//! * [`Error`] has a [`Refusal`] and a place in bytes: no span, no path and no excerpt of the text. [`Error::linecol_in`] and [`Place`]
+//!   count lines and columns; `Display` is one line. There is no constructor that takes a message.
+//! * [`lexer::LexError`] has no `InvalidDigit`, which wast declares and never builds; its `InvalidUtf8Id` carries [`lexer::Utf8Error`],
+//!   our own type with the methods of `std::str::Utf8Error`.
+//! * [`Settings`] is a value that a builder makes and [`lexer::Lexer::with_settings`] takes, so that it can be a constant and serve many
+//!   texts; [`lexer::Lexer::allow_confusing_unicode`] is there as in wast.
+//! * The library checks at each call that what it is given is UTF-8. [`lexer::Lexer::parse`], [`annotation`](lexer::Lexer::annotation)
+//!   and [`iter`](lexer::Lexer::iter) give it windows of the text, and the readers just the token's own bytes, which is proved to give
+//!   the same: a loop over any of them takes time in line with the text. [`lexer::Lexer::list`] checks the whole text once.
+//! * There is more: [`lexer::Lexer::list`], [`lexer::Lexer::from_bytes`], [`lexer::check_utf8`], the numbers of kinds and refusals.
 //!
 //! One value is found for each token of a text that [`lexer::Lexer::iter`] carries from 0 to its end; the one refusal left is a name
 //! that is empty or not UTF-8.
 
 mod ffi;
+mod iter;
 pub mod lexer;
 mod place;
 mod refusal;
 mod settings;
+mod window;
 
 pub use place::Place;
 pub use refusal::{Error, Refusal};
 pub use settings::Settings;
+
+/// The example of the README is compiled and run with the others.
+#[cfg(doctest)]
+#[doc = include_str!("../README.md")]
+struct Readme;

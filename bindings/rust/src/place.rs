@@ -15,19 +15,28 @@ pub struct Place([u32; 2]);
 
 impl Place {
     /// Where a text begins: line 1, column 1.
+    #[must_use]
     pub fn new() -> Place {
         Place([1, 1])
     }
 
+    /// The line, from 1.
+    #[must_use]
     pub fn line(&self) -> u32 {
         self.0[0]
     }
 
+    /// The column, from 1, in bytes.
+    #[must_use]
     pub fn column(&self) -> u32 {
         self.0[1]
     }
 
-    /// Moves over some bytes of the text, those of a token, say. Refused, and unchanged, where line or column would not fit 32 bits.
+    /// Moves over some bytes of the text, those of a token, say.
+    ///
+    /// # Errors
+    ///
+    /// [`Refusal::CounterFull`] where line or column would not fit 32 bits; the counter stays as it was.
     pub fn move_over(&mut self, bytes: &[u8]) -> Result<(), Refusal> {
         if ffi::move_over(&mut self.0, bytes) { Ok(()) } else { Err(Refusal::CounterFull) }
     }

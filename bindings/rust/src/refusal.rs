@@ -1,7 +1,7 @@
 //! Why a call is refused.
 
-use crate::ffi;
 use crate::lexer::{LexError, Utf8Error};
+use crate::{Place, ffi};
 use std::fmt;
 
 /// Why a call is refused.
@@ -28,6 +28,7 @@ pub enum Refusal {
 
 impl Refusal {
     /// The number that the C calls give.
+    #[must_use]
     pub fn number(&self) -> u64 {
         match self {
             Refusal::TooLong => 1,
@@ -72,7 +73,27 @@ impl fmt::Display for Refusal {
 
 impl std::error::Error for Refusal {}
 
+impl From<LexError> for Refusal {
+    fn from(error: LexError) -> Refusal {
+        Refusal::Lex(error)
+    }
+}
+
 /// A refusal, and where it stands in the text, if it stands anywhere.
+///
+/// The counterpart of `wast::Error`: [`message`](Error::message) and [`lex_error`](Error::lex_error) are wast's, [`place`](Error::place)
+/// is its `span().offset()`, and [`linecol_in`](Error::linecol_in) its `span().linecol_in(text)`. `Display` is the message and the place
+/// in bytes, in one line.
+///
+/// ```
+/// use thallusweb::lexer::Lexer;
+///
+/// let text = "(module\n  \"\\q\")";
+/// let error = Lexer::new(text).iter(0).find_map(Result::err).unwrap();
+/// assert_eq!(error.message(), "invalid string escape 'q'");
+/// assert_eq!(error.to_string(), "invalid string escape 'q' at byte 12");
+/// assert_eq!(error.linecol_in(text), Some((1, 4)));
+/// ```
 #[derive(Debug, Clone, PartialEq, Eq)]
 pub struct Error {
     refusal: Refusal,
@@ -84,6 +105,11 @@ impl Error {
         Error { refusal, place }
     }
 
+    /// The same in a text that has so many bytes before.
+    pub(crate) fn moved(self, before: usize) -> Error {
+        Error { place: self.place.map(|place| before + place), ..self }
+    }
+
     /// From the last four of five words.
     pub(crate) fn from_words([number, place, first, second]: [u64; 4]) -> Error {
         let refusal = Refusal::from_words(number, [first, second]);
@@ -92,11 +118,13 @@ impl Error {
     }
 
     /// Why.
+    #[must_use]
     pub fn refusal(&self) -> &Refusal {
         &self.refusal
     }
 
     /// The lexing error, if it is one: the counterpart of wast's `Error::lex_error`.
+    #[must_use]
     pub fn lex_error(&self) -> Option<&LexError> {
         match &self.refusal {
             Refusal::Lex(error) => Some(error),
@@ -105,11 +133,22 @@ impl Error {
     }
 
     /// Where, in bytes from the text's start.
+    #[must_use]
     pub fn place(&self) -> Option<usize> {
         self.place
     }
 
+    /// The line and the column of the place in the text, each from 0, as wast's `Span::linecol_in` has them; columns count bytes, and a
+    /// line ends at LF. Add 1 to each to show them. Nothing where the error stands nowhere, or past the text's end.
+    #[must_use]
+    pub fn linecol_in(&self, text: &str) -> Option<(usize, usize)> {
+        let mut place = Place::new();
+        place.move_over(text.as_bytes().get(..self.place?)?).ok()?;
+        Some((place.line() as usize - 1, place.column() as usize - 1))
+    }
+
     /// The message alone, as wast's `Error::message` has it.
+    #[must_use]
     pub fn message(&self) -> String {
         self.refusal.to_string()
     }
@@ -125,6 +164,13 @@ impl fmt::Display for Error {
 }
 
 impl std::error::Error for Error {}
+
+/// With no place, so that `?` passes on what [`Place::move_over`] refuses.
+impl From<Refusal> for Error {
+    fn from(refusal: Refusal) -> Error {
+        Error { refusal, place: None }
+    }
+}
 
 impl fmt::Display for LexError {
     fn fmt(&self, f: &mut fmt::Formatter<'_>) -> fmt::Result {

@@ -21,6 +21,7 @@ pub struct Settings {
 
 impl Settings {
     /// All off, as [`Lexer::new`](crate::lexer::Lexer::new) has them.
+    #[must_use]
     pub const fn new() -> Settings {
         Settings { allow_confusing_unicode: false }
     }
@@ -33,6 +34,7 @@ impl Settings {
     }
 
     /// Whether confusing characters are allowed.
+    #[must_use]
     pub const fn allows_confusing_unicode(&self) -> bool {
         self.allow_confusing_unicode
     }

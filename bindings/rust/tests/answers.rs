@@ -1,7 +1,7 @@
 //! What users of `wast::lexer` count on, and what is ours: no panic, refusals, places.
 
 use std::borrow::Cow;
-use thallusweb::lexer::{Float, LexError, Lexer, Reader, SignToken, Token, TokenKind};
+use thallusweb::lexer::{Float, LexError, Lexer, Listed, Reader, SignToken, Stop, Token, TokenKind};
 use thallusweb::{Error, Place, Refusal, Settings};
 
 fn one(text: &str) -> Token {
@@ -96,7 +96,7 @@ fn nothing_panics() {
             let _ = (parsed, lexer.annotation(position), lexer.iter(position).take(4).count(), lexer.place(position));
             for len in [0, 1, 2, u32::MAX] {
                 let token = Token { kind: TokenKind::String, offset: position, len };
-                let _ = (token.src(text), token.string(text), token.id(text), token.read(text, Reader::Payload));
+                let _ = (token.src(text), token.id(text), token.annotation(text), token.read(text, Reader::Payload));
             }
         }
     }
@@ -107,6 +107,158 @@ fn nothing_panics() {
     assert_eq!(refused(&" ".repeat(Lexer::MAX_TEXT + 1), 0), Refusal::TooLong);
     let Err(error) = Lexer::from_bytes(b"a\xff") else { panic!() };
     assert_eq!((error.refusal().number(), error.place()), (2, Some(1)));
+}
+
+/// A token that is not there fails a debug assertion of the readers that have no error to give, and nothing else does: without
+/// debug assertions they give what is empty.
+#[test]
+fn wrong_tokens() {
+    fn given<T>(reader: impl FnOnce() -> T + std::panic::UnwindSafe) -> Option<T> {
+        let given = std::panic::catch_unwind(reader).ok();
+        assert_eq!(given.is_none(), cfg!(debug_assertions));
+        given
+    }
+    let number = |text: &str| match one(text).kind {
+        TokenKind::Integer(kind) => (Some(kind), None),
+        TokenKind::Float(kind) => (None, Some(kind)),
+        _ => (None, None),
+    };
+    let (Some(integer), Some(normal)) = (number("7").0, number("7.5").1) else { panic!() };
+    let (Some(inf), Some(nan), Some(payload)) = (number("inf").1, number("-nan").1, number("nan:0x1").1) else {
+        panic!()
+    };
+    let text = "é ab\"";
+    for (offset, len) in [(0, 1), (1, 1), (3, 2), (5, 1), (6, 0), (9, 1), (usize::MAX, u32::MAX)] {
+        let token = Token { kind: TokenKind::String, offset, len };
+        if let Some(bytes) = given(|| token.string(text)) {
+            assert!(bytes.is_empty());
+        }
+        if let Some(read) = given(|| token.integer(text, integer)) {
+            assert_eq!((read.sign(), read.val()), (None, ("", 10)));
+        }
+        if let Some(read) = given(|| token.float(text, normal)) {
+            assert_eq!(read, Float::Val { hex: false, integral: "".into(), fractional: None, exponent: None });
+        }
+        if let Some(read) = given(|| token.float(text, payload)) {
+            assert_eq!(read, Float::Nan { val: None, negative: false });
+        }
+        for kind in [inf, nan] {
+            let read = given(|| token.float(text, kind));
+            assert!(matches!(
+                read,
+                None | Some(Float::Inf { negative: false } | Float::Nan { val: None, negative: true })
+            ));
+        }
+    }
+}
+
+/// Each refusal has the number of include/thallusweb.h, and a message.
+#[test]
+fn refusals() {
+    let utf8 = |bytes: &[u8]| Lexer::from_bytes(bytes).map(|_| ()).unwrap_err().refusal().clone();
+    let lex = [
+        (10, LexError::DanglingBlockComment, "unterminated block comment"),
+        (11, LexError::Unexpected('\n'), "unexpected character '\\n'"),
+        (12, LexError::InvalidStringElement('\u{1}'), "invalid character in string '\\u{1}'"),
+        (13, LexError::InvalidStringEscape('q'), "invalid string escape 'q'"),
+        (14, LexError::InvalidHexDigit('g'), "invalid hex digit 'g'"),
+        (16, LexError::Expected { wanted: '{', found: 'é' }, "expected '{' but found '\\u{e9}'"),
+        (17, LexError::UnexpectedEof, "unexpected end-of-file"),
+        (18, LexError::NumberTooBig, "number is too big to parse"),
+        (19, LexError::InvalidUnicodeValue(0xd800), "invalid unicode scalar value 0xd800"),
+        (20, LexError::LoneUnderscore, "bare underscore in numeric literal"),
+        (21, LexError::ConfusingUnicode('\u{202e}'), "likely-confusing unicode character found '\\u{202e}'"),
+        (23, LexError::EmptyId, "empty identifier"),
+        (24, LexError::EmptyAnnotation, "empty annotation id"),
+    ];
+    for (number, error, message) in lex {
+        assert_eq!(error.to_string(), message);
+        let refusal = Refusal::from(error.clone());
+        assert_eq!((refusal.number(), refusal.to_string()), (number, message.to_string()));
+        let whole = Error::from(refusal);
+        assert_eq!((whole.lex_error(), whole.place(), whole.to_string()), (Some(&error), None, message.to_string()));
+    }
+    let own = [
+        (1, Refusal::TooLong, "text longer than 16777216 bytes"),
+        (2, utf8(b"ab\xff"), "text is not UTF-8 from byte 2 on"),
+        (3, Refusal::PastEnd, "position past the end of the text"),
+        (4, Refusal::InsideCharacter, "position inside a character"),
+        (30, Refusal::NotThatToken, "no such token there"),
+        (31, Refusal::NotThatKind, "a token of another kind than the reader's"),
+        (35, Refusal::CounterFull, "line or column too large"),
+    ];
+    for (number, refusal, message) in own {
+        assert_eq!((refusal.number(), refusal.to_string()), (number, message.to_string()));
+        assert_eq!(Error::from(refusal).lex_error(), None);
+    }
+}
+
+#[test]
+fn errors() {
+    fn passed_on(text: &str) -> Result<(), Box<dyn std::error::Error + Send + Sync>> {
+        Lexer::new(text).parse(&mut 0)?;
+        Place::new().move_over(text.as_bytes())?;
+        Ok(())
+    }
+    assert_eq!(passed_on("\"").unwrap_err().to_string(), "unexpected end-of-file at byte 1");
+    assert!(passed_on("a").is_ok());
+    // a reader's error stands at the token
+    let text = "a\n $\"\\ff\"";
+    let token = Lexer::new(text).iter(0).last().unwrap().unwrap();
+    let error = token.id(text).unwrap_err();
+    assert_eq!((error.place(), error.linecol_in(text)), (Some(3), Some((1, 1))));
+    assert_eq!(
+        format!("{:?}", error.lex_error()),
+        "Some(InvalidUtf8Id(Utf8Error { valid_up_to: 0, error_len: Some(1) }))"
+    );
+    let wrong = token.read(text, Reader::String).unwrap_err();
+    assert_eq!((wrong.refusal().number(), wrong.place(), wrong.linecol_in(text)), (31, None, None));
+    // at each place, lines and columns from 0
+    let text = "é\r\n\n \n\"";
+    for end in (0..=text.len()).filter(|&end| text.is_char_boundary(end)) {
+        let open = format!("{}(;", &text[..end]);
+        let error = Lexer::new(&open).parse(&mut { end }).unwrap_err();
+        let before = &text.as_bytes()[..end];
+        let line = before.iter().filter(|&&byte| byte == b'\n').count();
+        let column = before.iter().rev().take_while(|&&byte| byte != b'\n').count();
+        assert_eq!(error.linecol_in(&open), Some((line, column)), "at {end}");
+        assert_eq!(error.linecol_in(&open[..end]), Some((line, column)), "at {end}");
+        assert_eq!(error.linecol_in(""), (end == 0).then_some((0, 0)), "at {end}");
+    }
+}
+
+/// A kind has one number, and a number at most one kind.
+#[test]
+fn numbers_of_kinds() {
+    let kinds: Vec<(u64, TokenKind)> =
+        (0..1 << 16).filter_map(|number| TokenKind::from_number(number).map(|kind| (number, kind))).collect();
+    // 10 plain ones, 12 of Integer, 2 of Inf, 2 of Nan, 4 of NanVal, 4 of Normal
+    assert_eq!(kinds.len(), 34);
+    for (i, (number, kind)) in kinds.iter().enumerate() {
+        assert_eq!(kind.number(), *number);
+        assert!(kinds[..i].iter().all(|(_, other)| other != kind));
+        for more in [1 << 16, 1 << 32, 1 << 63] {
+            assert_eq!(TokenKind::from_number(number + more), None);
+        }
+    }
+    let texts =
+        [(";;", 1), ("(;;)", 2), (" ", 3), ("(", 4), (")", 5), ("\"\"", 6), ("$a", 7), ("a", 8), ("@a", 9), (",", 10)];
+    let numbers = [("1", 11), ("+0x1_0", 11 + 256 + 1024 + 2048), ("-1", 11 + 512), ("inf", 12), ("-nan", 13 + 512)];
+    let floats = [("-nan:0x1_0", 14 + 512 + 1024), ("1.5", 15), ("0x1.8_0", 15 + 1024 + 2048)];
+    for (text, number) in texts.into_iter().chain(numbers).chain(floats) {
+        assert_eq!(one(text).kind.number(), number, "{text}");
+        assert_eq!(TokenKind::from_number(number), Some(one(text).kind), "{text}");
+    }
+}
+
+#[test]
+fn listings_stop() {
+    let listed = |text: &str, budget, room: usize| Lexer::new(text).list(0, budget, &mut vec![0; room * Lexer::RECORD]);
+    assert_eq!(listed("a b", 2, 9), Listed { stop: Stop::Budget, count: 2, position: 2 });
+    assert_eq!(listed("a b", 9, 2), Listed { stop: Stop::Full, count: 2, position: 2 });
+    assert_eq!(listed("a b", 3, 3), Listed { stop: Stop::End, count: 3, position: 3 });
+    let Stop::Error(error) = listed("a \"", 9, 9).stop else { panic!() };
+    assert_eq!((error.refusal().number(), error.place()), (17, Some(3)));
 }
 
 #[test]

@@ -1,0 +1,176 @@
+//! Windows of a text. A call checks the text that it is given; so it is given a window of it, which begins at the position and grows
+//! until the answer is decided. All calls of a loop together then take as long as the text is.
+//!
+//! That a decided answer is the text's own is proved (`slice-parses`, `slice-listing`; docs/ARCHITECTURE.md, windows), and so is an
+//! answer for a window that goes up to the text's end (`tail-parses`, `tail-listing`).
+
+use crate::lexer::{LexError, Lexer};
+use crate::refusal::{Error, Refusal};
+
+/// The window with which a call for one token begins.
+pub const FIRST: usize = 64;
+
+/// The refusal of a text and a position from which nothing is lexed, 1, 3 or 4, as the library gives it for the whole text. What is left
+/// begins at a character and is no longer than the library takes, and so is every window of it.
+pub fn refused(text: &str, position: usize) -> Option<Error> {
+    let refusal = if text.len() > Lexer::MAX_TEXT {
+        Refusal::TooLong
+    } else if position > text.len() {
+        Refusal::PastEnd
+    } else if !text.is_char_boundary(position) {
+        Refusal::InsideCharacter
+    } else {
+        return None;
+    };
+    Some(Error::new(refusal, Some(position)))
+}
+
+/// The window of some size at a position that is not refused: up to the next end of a character, or the text's end.
+pub fn window(text: &str, position: usize, size: usize) -> &str {
+    let mut end = text.len().min(position.saturating_add(size));
+    while !text.is_char_boundary(end) {
+        end += 1;
+    }
+    &text[position..end]
+}
+
+/// Whether what was found in a window, and the position behind it, are what the text has there too: tokens, or an error other than an open
+/// comment, with the position before the window's end.
+pub fn is_decided(error: Option<&Error>, position: usize, window: &str) -> bool {
+    error.and_then(Error::lex_error) != Some(&LexError::DanglingBlockComment) && position < window.len()
+}
+
+#[cfg(test)]
+mod tests {
+    use super::*;
+    use crate::lexer::{Iter, Token};
+    use crate::{Settings, ffi};
+
+    const PIECES: [&str; 23] = [
+        "(", ")", "(;", ";)", ";;", "\n", " ", "a", "$", "@", "@x", "0x1_", ".5", "\"", "\\", "\\u{", "4_", "}", "é",
+        "\u{202e}", "😀", ",", "#",
+    ];
+
+    /// Texts of so many pieces, the same in each run.
+    fn texts(count: usize, pieces: usize) -> impl Iterator<Item = String> {
+        let mut state = 1_u64;
+        let mut piece = move || {
+            state = state.wrapping_mul(6_364_136_223_846_793_005).wrapping_add(1_442_695_040_888_963_407);
+            PIECES[(state >> 33) as usize % PIECES.len()]
+        };
+        (0..count).map(move |_| (0..pieces).map(|_| piece()).collect())
+    }
+
+    fn both(text: &str) -> [Lexer<'_>; 2] {
+        [false, true].map(|allow| Lexer::with_settings(text, Settings::new().allow_confusing_unicode(allow)))
+    }
+
+    /// Every position that can be asked for, and some that cannot.
+    fn positions(text: &str) -> impl Iterator<Item = usize> {
+        (0..text.len() + 3).chain([usize::MAX - 1, usize::MAX])
+    }
+
+    /// What the library says of the whole text.
+    fn parsed_whole(lexer: &Lexer, position: usize) -> (Result<Option<Token>, Error>, usize) {
+        let [a, b, c, d, e, after] = ffi::parse(lexer.input().as_bytes(), lexer.settings().word(), position);
+        (crate::lexer::found([a, b, c, d, e]), after as usize)
+    }
+
+    fn annotation_whole(lexer: &Lexer, position: usize) -> Result<Option<Token>, Error> {
+        crate::lexer::found(ffi::annotation(lexer.input().as_bytes(), lexer.settings().word(), position))
+    }
+
+    fn parsed(lexer: &Lexer, position: usize, size: usize) -> (Result<Option<Token>, Error>, usize) {
+        let mut after = position;
+        (lexer.parse_by(&mut after, size), after)
+    }
+
+    /// Windows that begin with each size give what the library says of the whole text, at every position.
+    #[test]
+    fn windows_of_one_token_do_not_show() {
+        for text in texts(1_500, 8) {
+            for lexer in both(&text) {
+                for position in positions(&text) {
+                    let whole = parsed_whole(&lexer, position);
+                    let annotation = annotation_whole(&lexer, position);
+                    for size in [1, 2, 3, 5, 8, FIRST] {
+                        let shown = || format!("{text:?} at {position} by windows of {size}, {:?}", lexer.settings());
+                        assert_eq!(parsed(&lexer, position, size), whole, "parse of {}", shown());
+                        assert_eq!(lexer.annotation_by(position, size), annotation, "annotation of {}", shown());
+                    }
+                }
+            }
+        }
+    }
+
+    /// Windows of every size give what one listing of the whole text gives, token by token and error by error, which is what a loop
+    /// over the library's single tokens gives.
+    #[test]
+    fn windows_of_a_listing_do_not_show() {
+        for text in texts(3_000, 12) {
+            for lexer in both(&text) {
+                let mut position = 0;
+                let mut whole = Vec::new();
+                while whole.len() < 64 {
+                    let (found, after) = parsed_whole(&lexer, position);
+                    position = after;
+                    match found.transpose() {
+                        Some(item) => whole.push(item),
+                        None => break,
+                    }
+                }
+                for size in [1, 2, 3, 4, 5, 6, 7, 8, 1 << 10] {
+                    let items: Vec<_> = Iter::by(lexer, 0, size).take(64).collect();
+                    assert_eq!(items, whole, "{text:?} by windows of {size}, {:?}", lexer.settings());
+                }
+            }
+        }
+    }
+
+    /// 3 and 4 of a listing are those that the library gives for the whole text, and so is 1, of all calls.
+    #[test]
+    fn refusals_are_the_librarys() {
+        let long = " @ é".repeat(Lexer::MAX_TEXT / 5 + 1);
+        for text in ["", "é@", "(;", &long] {
+            for lexer in both(text) {
+                for position in (0..6).chain([text.len(), text.len() + 1, usize::MAX]) {
+                    let whole = parsed_whole(&lexer, position);
+                    if refused(text, position).is_some() {
+                        assert_eq!(lexer.iter(position).next(), whole.0.clone().transpose(), "at {position}");
+                        assert_eq!(lexer.iter(position).nth(2), whole.0.clone().transpose(), "again at {position}");
+                    }
+                    assert_eq!(parsed(&lexer, position, FIRST), whole, "at {position}");
+                    assert_eq!(lexer.annotation(position), annotation_whole(&lexer, position), "at {position}");
+                }
+            }
+        }
+    }
+
+    /// How many bytes the library is given for all tokens and errors of a text stays in line with the text and their number.
+    #[test]
+    fn bytes_given_are_in_line_with_the_text() {
+        let nested = format!("{}{}", "(;".repeat(9_000), ";)".repeat(9_000));
+        let line = format!(";;{}\n", "é".repeat(20_000));
+        let string = format!("\"{}\"", "\\u{1_0}".repeat(5_000));
+        let late = format!("{}{}", "a ".repeat(25_000), "\"\\q".repeat(16_000));
+        for text in ["(@a b) ", "\"\\q", "(;\u{202e};)@x ", &nested, &line, &string, &late] {
+            let text = text.repeat(100_000 / text.len());
+            for lexer in both(&text) {
+                let before = ffi::handed();
+                let (mut position, mut calls) = (0, 0);
+                while position < text.len() {
+                    let start = position;
+                    let _ = (lexer.parse(&mut position), lexer.annotation(start));
+                    calls += 2;
+                    assert!(position > start);
+                }
+                let given = ffi::handed() - before;
+                assert!(given <= 8 * text.len() + 2 * FIRST * calls, "{given} bytes in {calls} calls");
+                let before = ffi::handed();
+                let items = lexer.iter(0).count();
+                let given = ffi::handed() - before;
+                assert!(given <= 4 * text.len() + 2 * crate::iter::LEAST * items, "{given} bytes for {items} items");
+            }
+        }
+    }
+}
