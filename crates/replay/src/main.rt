@@ -78,20 +78,12 @@ fn read_agrees(row: &[u8], text: &[u8]) -> bool
     replay_rows::agrees(row, answer) & replay_rows::bytes_agree(row, &buffer, 64)
 }
 
-// A row's type, doubled, and one more if the answers differ; 0 for no row.
-fn replayed(row: &[u8]) -> usize
+// The type of a row, doubled, and one more if the answers differ; 1 for another type.
+fn verdict(kind: u8, row: &[u8], text: &[u8]) -> usize
+    requires { ⌜ length (now row) ≡ 152 ⌝ }
     ensures { λ r. ⌜ r < 10 ⌝ }
 {
-    if row.len() != 152 {
-        return 0;
-    }
-    let n = replay_rows::wide(row[2]) as usize;
-    if 40 < n {
-        return 1;
-    }
-    let end = 48 + n;
-    let text = &row[48..end];
-    match row[0] {
+    match kind {
         1 => {
             if parse_agrees(row, text) {
                 return 2;
@@ -120,8 +112,32 @@ fn replayed(row: &[u8]) -> usize
     }
 }
 
+// What a row says: its verdict; of a damaged row 10 if the answers differ, as they must, else 11; 0 for no row.
+fn replayed(row: &[u8]) -> usize
+    ensures { λ r. ⌜ r < 12 ⌝ }
+{
+    if row.len() != 152 {
+        return 0;
+    }
+    let n = replay_rows::wide(row[2]) as usize;
+    if 40 < n {
+        return 1;
+    }
+    let end = 48 + n;
+    let text = &row[48..end];
+    let kind = row[0];
+    if kind < 128 {
+        return verdict(kind, row, text);
+    }
+    let r = verdict(kind - 128, row, text);
+    if (r == 3) | (r == 5) | (r == 7) | (r == 9) {
+        return 10;
+    }
+    11
+}
+
 fn next(fd: i32) -> usize
-    ensures { λ r. ⌜ r < 10 ⌝ }
+    ensures { λ r. ⌜ r < 12 ⌝ }
 {
     let mut row = [0u8; 152];
     let n = io::read_full(fd, &mut row);
@@ -129,8 +145,8 @@ fn next(fd: i32) -> usize
 }
 
 // How many rows were of each type and verdict, by `replayed`; a proved loop has to end, so it counts its turns.
-fn replay_all(fd: i32) -> [u64; 10] {
-    let mut counts = [0u64; 10];
+fn replay_all(fd: i32) -> [u64; 12] {
+    let mut counts = [0u64; 12];
     let mut turns: u32 = 1_000_000;
     while 0 < turns {
         let r = next(fd);

@@ -1,7 +1,8 @@
 // Rows of recorded answers, and whether ours are the same.
 //
 // The file `answers` has rows of 152 bytes; a number of more than a byte has its least first:
-//    0  the type: 1 one token, 2 annotation, 3 listing, 4 a reader's first call
+//    0  the type: 1 one token, 2 annotation, 3 listing, 4 a reader's first call; 128 more for a damaged row, which
+//       must differ
 //    1  the settings' word, or the reader's number
 //    2  the text's length, at most 40
 //    3  the length of the list or buffer, at most 64
@@ -118,14 +119,15 @@ fn line(name: &[u8], agree: u64, differ: u64) {
     io::write_all(STDOUT_FILENO, b"\n");
 }
 
-// What was counted: of each type of row how many agree, and whether all do. `c` has the rows that are none at 1, then
-// two for each type.
-pub fn report(c: &[u64; 10]) {
+// What was counted: of each type of row how many agree, of the damaged rows how many differ, and whether all is as it
+// must be. `c` has the rows that are none at 1, then two for each type and for damaged rows.
+pub fn report(c: &[u64; 12]) {
     line(b"parse ", c[2], c[3]);
     line(b"annotation ", c[4], c[5]);
     line(b"list ", c[6], c[7]);
     line(b"read ", c[8], c[9]);
-    if (c[1] == 0) & (c[3] == 0) & (c[5] == 0) & (c[7] == 0) & (c[9] == 0) {
+    line(b"damaged, and noticed ", c[10], c[11]);
+    if (c[1] == 0) & (c[3] == 0) & (c[5] == 0) & (c[7] == 0) & (c[9] == 0) & (c[11] == 0) {
         io::write_all(STDOUT_FILENO, b"all agree\n");
     } else {
         io::write_all(STDOUT_FILENO, b"answers differ\n");

@@ -1,4 +1,4 @@
-//! Answers of the Rust, recorded for the program of crates/replay; the first comment of crates/rows has the layout of a row.
+//! Answers of the Rust, recorded for the program of crates/replay; the first comment of crates/replay_rows has the layout of a row.
 
 use oracle::listing::Stop;
 use oracle::readers::Token;
@@ -251,12 +251,43 @@ fn any_text(chance: &mut Texts) -> Vec<u8> {
     if chance.below(12) == 0 { chance.bytes(TEXT) } else { chance.text(TEXT).into_bytes() }
 }
 
-/// Rows for random texts and byte strings: five of seven are of lexing, the rest of readers.
+/// Rows for random texts and byte strings: five of seven are of lexing, the rest of readers. Then rows that must differ.
 pub fn rows(rows: usize, seed: u64) -> Vec<u8> {
     let readings = rows * 2 / 7;
     let mut chance = Texts::new(seed);
     let mut out = lexing_rows(rows - readings, &mut chance);
     out.extend(reading_rows(readings, &mut chance));
+    out.extend(damaged_rows(&out));
+    out
+}
+
+/// Rows that must differ, so that a comparison which is left out shows: copies with one number or byte of the answer changed, whose
+/// type has 128 added. Of each type three rows for each number, and for the first and the last byte of what else is compared.
+fn damaged_rows(rows: &[u8]) -> Vec<u8> {
+    let mut out = Vec::new();
+    for (kind, numbers, lent) in [(1, 6, false), (2, 5, false), (3, 7, true), (4, 5, true)] {
+        let of_kind: Vec<_> = rows.chunks_exact(ROW).filter(|row| row[0] == kind).collect();
+        let told: Vec<_> = of_kind.iter().copied().filter(|row| row[40] != 0).collect();
+        let mut damage = |rows: &[&[u8]], at: usize| {
+            for i in [0, rows.len() / 2, rows.len().saturating_sub(1)] {
+                let Some(&row) = rows.get(i) else { continue };
+                let mut row = row.to_vec();
+                row[0] |= 128;
+                row[at] ^= 1;
+                out.extend(row);
+            }
+        };
+        for number in 0..numbers {
+            damage(&of_kind, 12 + 4 * number);
+        }
+        if lent {
+            damage(&of_kind, ROW - LENT);
+            damage(&of_kind, ROW - 1);
+        } else {
+            damage(&told, 40);
+            damage(&told, ROW - LENT);
+        }
+    }
     out
 }
 
