@@ -197,4 +197,64 @@ fn main() {
             report(&format!("listing, {name}"), text.len(), times);
         }
     }
+    // one call for each token or error: in line with the text, so that four times the text takes four times as long
+    for (name, piece) in [("ordinary WAT", ordinary as Piece), ("errors", errors)] {
+        let texts = [text(1 << 20, piece), text(4 << 20, piece)];
+        grows(
+            &format!("parse in a loop, {name}"),
+            rounds,
+            &texts,
+            parsed,
+            parsed_by_the_original,
+        );
+        let iter = |text: &str| Ours::new(text).iter(0).count();
+        grows(&format!("iter, {name}"), rounds, &texts, iter, |text| {
+            Lexer::new(text).iter(0).count()
+        });
+    }
+}
+
+/// A string that is refused at its escape; lexing goes on behind it.
+fn errors(_: &mut Chance, text: &mut String) {
+    text.push_str("\"\\q");
+}
+
+fn parsed(text: &str) -> usize {
+    let (lexer, mut position, mut items) = (Ours::new(text), 0, 0);
+    while !matches!(lexer.parse(&mut position), Ok(None)) {
+        items += 1;
+    }
+    items
+}
+
+fn parsed_by_the_original(text: &str) -> usize {
+    let (lexer, mut position, mut items) = (Lexer::new(text), 0, 0);
+    while !matches!(lexer.parse(&mut position), Ok(None)) {
+        items += 1;
+    }
+    items
+}
+
+/// Times a count of items on a text and on one of four times its length, and says how much longer the second takes us.
+fn grows(
+    name: &str,
+    rounds: u32,
+    texts: &[String; 2],
+    ours: impl Fn(&str) -> usize,
+    original: impl Fn(&str) -> usize,
+) {
+    let times = texts.each_ref().map(|text| {
+        assert_eq!(ours(text), original(text), "{name}");
+        let times = best(
+            rounds,
+            || _ = black_box(ours(black_box(text))),
+            || _ = black_box(original(black_box(text))),
+        );
+        report(name, text.len(), times);
+        times.0.as_secs_f64()
+    });
+    println!(
+        "{name}: 4 MiB take {:.1} times as long as 1",
+        times[1] / times[0]
+    );
 }
