@@ -53,20 +53,20 @@ module _ {text buffer : RefT (List ℕ)} where
 -- ---- no other part
 
 -- two references at one address, to the same bytes. No code tells them apart
-abbrev pub Same : RefT (List ℕ) → RefT (List ℕ) → Type 0
-Same r r′ = (ptr r ≡ ptr r′) × (now r ≡ now r′)
+abbrev pub SameReference : RefT (List ℕ) → RefT (List ℕ) → Type 0
+SameReference r r′ = (ptr r ≡ ptr r′) × (now r ≡ now r′)
 
 module _ {r r′ : RefT (List ℕ)} where
-  ref-one : {s : RefT (List ℕ)} {start len : ℕ} → PartRef s start len r → PartRef s start len r′ → Same r r′
+  ref-one : {s : RefT (List ℕ)} {start len : ℕ} → PartRef s start len r → PartRef s start len r′ → SameReference r r′
   ref-one p q = (p .address ∙ sym (q .address), p .bytes ∙ sym (q .bytes))
 
-  of-one : {s : RefT (List ℕ)} {start len : ℕ} → PartOf s start len r → PartOf s start len r′ → Same r r′
+  of-one : {s : RefT (List ℕ)} {start len : ℕ} → PartOf s start len r → PartOf s start len r′ → SameReference r r′
   of-one (PartOf.inside h p) (PartOf.inside k q) = ref-one p q
   of-one (PartOf.inside h p) (PartOf.outside k q) = absurd (omega arith)
   of-one (PartOf.outside h p) (PartOf.inside k q) = absurd (omega arith)
   of-one (PartOf.outside h p) (PartOf.outside k q) = ref-one p q
 
-  pub part-one : {text buffer : RefT (List ℕ)} {a : Reading} → PartFor text buffer a r → PartFor text buffer a r′ → Same r r′
+  pub part-one : {text buffer : RefT (List ℕ)} {a : Reading} → PartFor text buffer a r → PartFor text buffer a r′ → SameReference r r′
   part-one (PartFor.of-text p) (PartFor.of-text q) = of-one p q
   part-one (PartFor.of-buffer p) (PartFor.of-buffer q) = of-one p q
   part-one (PartFor.refused p) (PartFor.refused q) = ref-one p q

@@ -161,7 +161,7 @@ lists-all σ text start budget list = go (entering text start)
 
 -- ---- a text that the listing carries from byte 0 to its end
 
-end-at : {σ : Settings} {text : List ℕ} {budget room n at p : ℕ} {why : Stop} → Stops σ text budget room n at why p
+pub end-at : {σ : Settings} {text : List ℕ} {budget room n at p : ℕ} {why : Stop} → Stops σ text budget room n at why p
     → why ≡ stop.End → at ≡ length text
 end-at (Stops.end e) q = e
 end-at (Stops.budget h e) q = differ (cc)

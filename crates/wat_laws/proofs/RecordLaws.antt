@@ -130,7 +130,7 @@ each-said {l} s ts rest e h i b =
 
 -- the tokens that a listing handed out, from `start` on, and that each record says its token, its offset counted from
 -- `start`
-pub record Decodes (σ : Settings) (text : List ℕ) (start : ℕ) (r : Listed) (l : List ℕ) : Type 0 where
+pub record RecordsSay (σ : Settings) (text : List ℕ) (start : ℕ) (r : Listed) (l : List ℕ) : Type 0 where
   pub tokens : List Piece
   pub end : ℕ
   pub walked : Walked σ text start end tokens
@@ -138,7 +138,7 @@ pub record Decodes (σ : Settings) (text : List ℕ) (start : ℕ) (r : Listed) 
   pub each : (i : ℕ) → i < r .count → SaidOf l tokens i
 
 pub listed-decode : {σ : Settings} {text : List ℕ} {start budget : ℕ} {list l : List ℕ} {r : Listed}
-    → Listing σ text start budget list r l → Stands text start → Decodes σ text start r l
+    → Listing σ text start budget list r l → Stands text start → RecordsSay σ text start r l
 listed-decode (Listing.rejected t) s = absurd (stands-or-rejected s t)
 listed-decode {text = text} {start = start} {list = list} (Listing.lists {ts = ts} {at = at} s w f g h) v =
     let small : lengths ts < 2 ^ 32 = omega (arith, w .place, w .stands .within, s .sound .short) in
@@ -160,17 +160,17 @@ whole-decode {text = text} {list = list} t x i b =
 -- ---- records determine the tokens
 
 -- what a record keeps of a token: its kind's number and its length
-abbrev pub kept : List Piece → List (ℕ × ℕ)
-kept [] = []
-kept (t ∷ ts) = (kindNumber (t .kind), t .len) ∷ kept ts
+abbrev pub written : List Piece → List (ℕ × ℕ)
+written [] = []
+written (t ∷ ts) = (kindNumber (t .kind), t .len) ∷ written ts
 
 -- tokens whose records are the same, in whatever texts, are as many, of the same lengths and kinds' numbers
-pub records-kept : (s s′ : List ℕ) (ts us : List Piece) → lengths ts < 2 ^ 32 → lengths us < 2 ^ 32
-    → records s ts ≡ records s′ us → kept ts ≡ kept us
-records-kept s s′ [] [] h k e = refl
-records-kept s s′ [] (u ∷ us) h k e = absurd (omega (arith, ap length e))
-records-kept s s′ (t ∷ ts) [] h k e = absurd (omega (arith, ap length e))
-records-kept s s′ (t ∷ ts) (u ∷ us) h k e =
+pub records-written : (s s′ : List ℕ) (ts us : List Piece) → lengths ts < 2 ^ 32 → lengths us < 2 ^ 32
+    → records s ts ≡ records s′ us → written ts ≡ written us
+records-written s s′ [] [] h k e = refl
+records-written s s′ [] (u ∷ us) h k e = absurd (omega (arith, ap length e))
+records-written s s′ (t ∷ ts) [] h k e = absurd (omega (arith, ap length e))
+records-written s s′ (t ∷ ts) (u ∷ us) h k e =
     let w = take (t .len) s in
     let v = take (u .len) s′ in
     let x = records (drop (t .len) s) ts in
@@ -179,20 +179,20 @@ records-kept s s′ (t ∷ ts) (u ∷ us) h k e =
     sym (first-length w t x (omega arith)) ∙ ap (λ (l : List ℕ). lengthAt l 0) e ∙ first-length v u y (omega arith) in
     let b : kindNumber (t .kind) ≡ kindNumber (u .kind) =
     sym (first-kind w t x) ∙ ap (λ (l : List ℕ). kindAt l 0) e ∙ first-kind v u y in
-    let i = records-kept (drop (t .len) s) (drop (u .len) s′) ts us (omega arith) (omega arith) (ap (drop recordSize) e) in
+    let i = records-written (drop (t .len) s) (drop (u .len) s′) ts us (omega arith) (omega arith) (ap (drop recordSize) e) in
     cc
 
-kept-one : (ts us : List Piece) → kept ts ≡ kept us → ts ≡ us
-kept-one [] [] e = refl
-kept-one [] (u ∷ us) e = absurd (omega (arith, ap length e))
-kept-one (t ∷ ts) [] e = absurd (omega (arith, ap length e))
-kept-one (t ∷ ts) (u ∷ us) e =
+written-one : (ts us : List Piece) → written ts ≡ written us → ts ≡ us
+written-one [] [] e = refl
+written-one [] (u ∷ us) e = absurd (omega (arith, ap length e))
+written-one (t ∷ ts) [] e = absurd (omega (arith, ap length e))
+written-one (t ∷ ts) (u ∷ us) e =
     let a : t .len ≡ u .len = ap (λ (l : List (ℕ × ℕ)). getD l 0 (0, 0) .1) e in
     let b : t .kind ≡ u .kind = injective (t .kind) (u .kind) (ap (λ (l : List (ℕ × ℕ)). getD l 0 (0, 0) .0) e) in
-    let i = kept-one ts us (ap (drop 1) e) in
+    let i = written-one ts us (ap (drop 1) e) in
     λ j. record { kind = b j; len = a j } ∷ i j
 
 -- and so the same tokens
 pub records-one : (s s′ : List ℕ) (ts us : List Piece) → lengths ts < 2 ^ 32 → lengths us < 2 ^ 32
     → records s ts ≡ records s′ us → ts ≡ us
-records-one s s′ ts us h k e = kept-one ts us (records-kept s s′ ts us h k e)
+records-one s s′ ts us h k e = written-one ts us (records-written s s′ ts us h k e)

@@ -8,15 +8,13 @@ use lib.Seq.{drop-drop}
 use Rattle.wat.specs.declared.{TokenKind.TokenKind, Settings.Settings, Family.Family}
 use Rattle.wat.specs.declared.Answer.the-variants as answer
 use Rattle.wat.specs.Utf8.{WellFormed}
-use Rattle.wat.specs.Chars.{space, punctuation}
 use Rattle.wat.specs.Lexing.{Lexed}
 use Rattle.wat.specs.Calls.{Stands}
 use Rattle.wat.specs.Division.{Piece, lengths, Divided, Walked}
-use Rattle.wat.proofs.Basics.{has-every}
 use Rattle.wat.proofs.Runs.{idchar-ascii}
 use Rattle.wat.proofs.Families.{Families, is-space, is-open, is-close, is-semi, is-single, is-char, is-quote, is-other, families}
 use Rattle.wat.proofs.Unique.{nil-token}
-use Rattle.wat.proofs.Boundaries.{cut, token-formed}
+use Rattle.wat.proofs.Boundaries.{cut, token-formed, space-low, punctuation-low}
 use Rattle.wat_laws.proofs.TokenShapes.{Told, start as told-start}
 use Rattle.wat_laws.proofs.Divisions.{divided-drop, lengths-append}
 
@@ -24,12 +22,11 @@ use Rattle.wat_laws.proofs.Divisions.{divided-drop, lengths-append}
 
 -- a token begins with an ASCII byte
 starts-low : {f : Family} (x : ℕ) (w : List ℕ) → Families x f → Told f w → x < 0x80
-unfolding space punctuation
-starts-low x w (is-space e) t = has-every (λ y. y < 0x80) _ x (omega arith) e
+starts-low x w (is-space e) t = space-low x e
 starts-low x w (is-open e) t = omega arith
 starts-low x w (is-close e) t = omega arith
 starts-low x w (is-semi e) t = omega arith
-starts-low x w (is-single e n) t = has-every (λ y. y < 0x80) _ x (omega arith) e
+starts-low x w (is-single e n) t = punctuation-low x e
 starts-low x w (is-char e) t = idchar-ascii x e
 starts-low x w (is-quote e) t = omega arith
 starts-low x w (is-other e) t = absurd t

@@ -17,7 +17,7 @@ use Rattle.wat.specs.Utf8.{WellFormed, empty, more}
 use Rattle.wat.specs.Lexing.{Fails, Lexed}
 use Rattle.wat.specs.Calls.{Text, Stands, Parses}
 use Rattle.wat.specs.Division.{Piece, lengths, Divided, Walked, recordSize, recordOf, records, Stops, Listing}
-use Rattle.wat_laws.specs.Windows.{Inside, Decided, DecidedStop}
+use Rattle.wat_laws.specs.Windows.{DecidedAnswer, Decided, DecidedStop}
 use Rattle.wat.proofs.Basics.{differ, below}
 use Rattle.wat.proofs.Scalars.{after}
 use Rattle.wat.proofs.Unique.{nil-fault}
@@ -26,6 +26,7 @@ use Rattle.wat_laws.proofs.Divisions.{token-size, divided-length, divid
 use Rattle.wat_laws.proofs.OneCall.{stands-or-rejected}
 use Rattle.wat_laws.proofs.FaultPlaces.{rejected-other}
 use Rattle.wat_laws.proofs.WalkParts.{walked-from, walked-cut}
+use Rattle.wat_laws.proofs.Listings.{end-at}
 use Rattle.wat_laws.proofs.Windows.{window-lexed, window-token}
 
 -- ---- texts one behind the other
@@ -50,7 +51,7 @@ module _ (front rest : List ℕ) (whole : Text (front ++ rest)) where
       }
 
   -- what is lexed at a position of the front
-  lexed-at : {σ : Settings} {pos : ℕ} {a : Answer} → Stands front pos → Lexed σ (drop pos front) a → Inside (drop pos front) a
+  lexed-at : {σ : Settings} {pos : ℕ} {a : Answer} → Stands front pos → Lexed σ (drop pos front) a → DecidedAnswer (drop pos front) a
       → Lexed σ (drop pos (front ++ rest)) a
   lexed-at {σ} {pos} {a} s l i =
       let e = drop-append-le pos front rest (s .within) in
@@ -192,10 +193,8 @@ module _ (front rest : List ℕ) (whole : Text (front ++ rest)) where
   pub window-listing-end : {σ : Settings} {start budget : ℕ} {list l : List ℕ} {r : Listed}
       → Listing σ front start budget list r l → r .stop ≡ stop.End → 0 < r .count → ButLast σ start list r l
   window-listing-end (Listing.rejected t) e h = absurd (omega arith)
-  window-listing-end (Listing.lists s w f g (Stops.budget b x)) e h = differ (cc)
-  window-listing-end (Listing.lists s w f g (Stops.fault b x)) e h = differ (cc)
-  window-listing-end (Listing.lists s w f g (Stops.full b i x)) e h = differ (cc)
-  window-listing-end {σ} {start} {budget} {list} (Listing.lists {ts = ts} {at = at} s w f g (Stops.end x)) e h =
+  window-listing-end {σ} {start} {budget} {list} (Listing.lists {ts = ts} {at = at} s w f g stopped) e h =
+      let x = end-at stopped e in
       let o = last-of ts h in
       let us = o .0 in
       let t = o .1 in

@@ -29,7 +29,7 @@ use Rattle.wat.specs.declared.Family.the-variants.{OpenParen as open-paren, Sem
 use Rattle.wat.specs.declared.Hidden.{Hidden}
 use Rattle.wat.specs.declared.Hidden.the-variants.{Clear as clear, Found as found}
 use Rattle.wat.specs.LexModel.{count, hidden, commentBy, comment, blockBy, runBy, otherBy, lexBy, lex}
-use Rattle.wat_laws.specs.Windows.{Inside}
+use Rattle.wat_laws.specs.Windows.{DecidedAnswer}
 use Rattle.wat.proofs.Scalars.{peek-char, peek-nothing}
 use Rattle.wat.proofs.Runs.{Stopped, ended, halted, run-stops, run-fails, Walks, is-run, is-bad, walks}
 use Rattle.wat.proofs.Blocks.{block-ends, ended as block-ended}
@@ -83,13 +83,13 @@ string-window {σ} r (BadStr.quoted {b = b} {p = p} {c = c} {u = u} q x) h =
     let seam : 0x22 ∷ (b ++ (p ++ (c ++ (u ++ r)))) ≡ (0x22 ∷ (b ++ (p ++ (c ++ u)))) ++ r = simp append-assoc in
     rw (← seam) (BadStr.quoted q (bad-window r x some-left))
 
-run-window : (σ : Settings) (s r : List ℕ) → WellFormed s → Inside s (lexBy σ run s) → lexBy σ run (s ++ r) ≡ lexBy σ run s
+run-window : (σ : Settings) (s r : List ℕ) → WellFormed s → DecidedAnswer s (lexBy σ run s) → lexBy σ run (s ++ r) ≡ lexBy σ run s
 run-window σ s r g h = go (walks (suc (length s)) s (omega arith) g) h
   where
     fuel : ℕ
     fuel = suc (length (s ++ r))
 
-    go : {k : RunEnd} → Walks σ s k → Inside s (runBy s k) → runBy (s ++ r) (walk σ fuel (s ++ r)) ≡ runBy s k
+    go : {k : RunEnd} → Walks σ s k → DecidedAnswer s (runBy s k) → runBy (s ++ r) (walk σ fuel (s ++ r)) ≡ runBy s k
     go (is-run {w = w} {n = n} u q x z m) h =
         let l : length s ≡ length w + length u = ap length q ∙ length-append w u in
         let e : walk σ fuel (s ++ r) ≡ stops (length w) =
@@ -107,26 +107,26 @@ run-window σ s r g h = go (walks (suc (length s)) s (omega arith) g) h
 -- ---- comments
 
 -- a comment that the front holds ends before the front does
-comment-inside : (σ : Settings) (k : TokenKind) (n : ℕ) (s : List ℕ) → Inside s (comment σ k n s) → n < length s
+comment-inside : (σ : Settings) (k : TokenKind) (n : ℕ) (s : List ℕ) → DecidedAnswer s (comment σ k n s) → n < length s
 unfolding comment
 comment-inside σ k n s h = go (σ .«allow_confusing») (hidden (suc (length s)) s) h
   where
-    by : (x : Hidden) → Inside s (commentBy k n x) → n < length s
+    by : (x : Hidden) → DecidedAnswer s (commentBy k n x) → n < length s
     by clear h = h
     by (found p c) h = at (ltb p n) h
       where
         at : (b : Bool)
-            → Inside s (elim b [ true ↦ answer.Fault (fault (ConfusingUnicode c) p n) | false ↦ answer.Token k n ])
+            → DecidedAnswer s (elim b [ true ↦ answer.Fault (fault (ConfusingUnicode c) p n) | false ↦ answer.Token k n ])
             → n < length s
         at true h = h .0
         at false h = h
 
-    go : (b : Bool) (x : Hidden) → Inside s (elim b [ true ↦ answer.Token k n | false ↦ commentBy k n x ]) → n < length s
+    go : (b : Bool) (x : Hidden) → DecidedAnswer s (elim b [ true ↦ answer.Token k n | false ↦ commentBy k n x ]) → n < length s
     go true x h = h
     go false x h = by x h
 
 line-window : (σ : Settings) (t r : List ℕ) → WellFormed (0x3B ∷ 0x3B ∷ t)
-    → Inside (0x3B ∷ 0x3B ∷ t) (lexBy σ semi (0x3B ∷ 0x3B ∷ t))
+    → DecidedAnswer (0x3B ∷ 0x3B ∷ t) (lexBy σ semi (0x3B ∷ 0x3B ∷ t))
     → lexBy σ semi (0x3B ∷ 0x3B ∷ (t ++ r)) ≡ lexBy σ semi (0x3B ∷ 0x3B ∷ t)
 line-window σ t r g h =
     let s : List ℕ = 0x3B ∷ 0x3B ∷ t in
@@ -136,7 +136,7 @@ line-window σ t r g h =
     ap (λ (m : ℕ). comment σ kind.LineComment m (s ++ r)) e
     ∙ comment-window σ kind.LineComment n s r (l .fits) (token-formed g l .0)
 
-semi-window : (σ : Settings) (t r : List ℕ) → WellFormed (0x3B ∷ t) → Inside (0x3B ∷ t) (lexBy σ semi (0x3B ∷ t))
+semi-window : (σ : Settings) (t r : List ℕ) → WellFormed (0x3B ∷ t) → DecidedAnswer (0x3B ∷ t) (lexBy σ semi (0x3B ∷ t))
     → lexBy σ semi (0x3B ∷ (t ++ r)) ≡ lexBy σ semi (0x3B ∷ t)
 semi-window σ [] r g h = absurd (omega arith)
 semi-window σ (y ∷ v) r g h = go (eqb y 0x3B) refl
@@ -146,7 +146,7 @@ semi-window σ (y ∷ v) r g h = go (eqb y 0x3B) refl
     go false e = rw (e, lexBy)
 
 block-window : (σ : Settings) (v r : List ℕ) → WellFormed (0x28 ∷ 0x3B ∷ v)
-    → (o : Option ℕ) → ends fresh 0 v ≡ o → Inside (0x28 ∷ 0x3B ∷ v) (blockBy σ (0x28 ∷ 0x3B ∷ v) o)
+    → (o : Option ℕ) → ends fresh 0 v ≡ o → DecidedAnswer (0x28 ∷ 0x3B ∷ v) (blockBy σ (0x28 ∷ 0x3B ∷ v) o)
     → blockBy σ (0x28 ∷ 0x3B ∷ (v ++ r)) (ends fresh 0 (v ++ r)) ≡ blockBy σ (0x28 ∷ 0x3B ∷ v) o
 block-window σ v r g none e h = absurd (h .1 refl)
 block-window σ v r g (some n) e h =
@@ -157,7 +157,7 @@ block-window σ v r g (some n) e h =
     ∙ block-ends 0 (b .rest ++ r) (b .is) ∙ ap some (sym (b .long)) in
     rw q (comment-window σ kind.BlockComment (2 + n) (0x28 ∷ 0x3B ∷ v) r (l .fits) (token-formed g l .0))
 
-open-window : (σ : Settings) (t r : List ℕ) → WellFormed (0x28 ∷ t) → Inside (0x28 ∷ t) (lexBy σ open-paren (0x28 ∷ t))
+open-window : (σ : Settings) (t r : List ℕ) → WellFormed (0x28 ∷ t) → DecidedAnswer (0x28 ∷ t) (lexBy σ open-paren (0x28 ∷ t))
     → lexBy σ open-paren (0x28 ∷ (t ++ r)) ≡ lexBy σ open-paren (0x28 ∷ t)
 open-window σ [] r g h = absurd (omega arith)
 open-window σ (y ∷ v) r g h = go (eqb y 0x3B) refl
@@ -168,17 +168,17 @@ open-window σ (y ∷ v) r g h = go (eqb y 0x3B) refl
 
 -- ---- every rest
 
-other-window : {s : List ℕ} (r : List ℕ) → WellFormed s → Inside s (otherBy (peek s))
+other-window : {s : List ℕ} (r : List ℕ) → WellFormed s → DecidedAnswer s (otherBy (peek s))
     → otherBy (peek (s ++ r)) ≡ otherBy (peek s)
-other-window r empty h = let k : Inside [] (otherBy nothing) = rw peek-nothing at h in absurd k
+other-window r empty h = let k : DecidedAnswer [] (otherBy nothing) = rw peek-nothing at h in absurd k
 other-window r (more {c = c} {t = u} ch g) h = rw (append-assoc c u r, peek-char c (u ++ r) ch, peek-char c u ch)
 
-lex-window : (σ : Settings) (s r : List ℕ) → WellFormed s → Inside s (lex σ s) → lex σ (s ++ r) ≡ lex σ s
+lex-window : (σ : Settings) (s r : List ℕ) → WellFormed s → DecidedAnswer s (lex σ s) → lex σ (s ++ r) ≡ lex σ s
 unfolding lex
 lex-window σ [] r g h = absurd h
 lex-window σ (x ∷ t) r g h = by (families x) h
   where
-    by : {f : Family} → Families x f → Inside (x ∷ t) (lexBy σ f (x ∷ t)) → lexBy σ f (x ∷ (t ++ r)) ≡ lexBy σ f (x ∷ t)
+    by : {f : Family} → Families x f → DecidedAnswer (x ∷ t) (lexBy σ f (x ∷ t)) → lexBy σ f (x ∷ (t ++ r)) ≡ lexBy σ f (x ∷ t)
     by (is-space e) h = ap (answer.Token kind.Whitespace) (count-window space true (x ∷ t) r h)
     by (is-open e) h = rw e (open-window σ t r (rw e at g) (rw e at h))
     by (is-close e) h = refl
@@ -190,10 +190,10 @@ lex-window σ (x ∷ t) r g h = by (families x) h
 
 -- the answer for the front is that for the text
 pub window-lexed : {σ : Settings} {s : List ℕ} {a : Answer} (r : List ℕ) → WellFormed s → WellFormed (s ++ r)
-    → Lexed σ s a → Inside s a → Lexed σ (s ++ r) a
+    → Lexed σ s a → DecidedAnswer s a → Lexed σ (s ++ r) a
 window-lexed {σ} {s} {a} r g k l h =
     let e = lexed-is g l in
-    let i : Inside s (lex σ s) = subst (λ (b : Answer). Inside s b) e h in
+    let i : DecidedAnswer s (lex σ s) = subst (λ (b : Answer). DecidedAnswer s b) e h in
     subst (λ (b : Answer). Lexed σ (s ++ r) b) (lex-window σ s r g i ∙ sym e) (lexed σ k)
 
 pub window-token : {σ : Settings} {s : List ℕ} {k : TokenKind} {n : ℕ} (r : List ℕ) → WellFormed s → WellFormed (s ++ r)

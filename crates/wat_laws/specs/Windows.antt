@@ -29,10 +29,10 @@ Paused why = (why ≡ stop.Budget) ⊎ (why ≡ stop.Full)
 -- ---- what a piece of a text decides
 
 -- a byte of s follows what the answer consumes, and the answer is not 10, which looks at all that is left
-abbrev pub Inside : List ℕ → Answer → Type 0
-Inside s answer.End = ⊥
-Inside s (answer.Token k n) = n < length s
-Inside s (answer.Fault f) = (f .after < length s) × (f .error ≡ DanglingBlockComment → ⊥)
+abbrev pub DecidedAnswer : List ℕ → Answer → Type 0
+DecidedAnswer s answer.End = ⊥
+DecidedAnswer s (answer.Token k n) = n < length s
+DecidedAnswer s (answer.Fault f) = (f .after < length s) × (f .error ≡ DanglingBlockComment → ⊥)
 
 -- an answer for the front that is also the text's: a token, or an error of lexing other than 10, with the position
 -- afterwards before the front's end
