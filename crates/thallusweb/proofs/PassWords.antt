@@ -30,7 +30,7 @@ use Rattle.read_call.specs.ByNumber.{readers, nth, ReadBy}
 use Rattle.thallusweb.specs.Promises.{ListedWords, ReadWords, IntegerSignWords, FloatSignWords}
 use Rattle.thallusweb.specs.ReadableWords.{ownBytes, PartBytes, foundIn, YieldsWords, ReadableWords, SignsWords}
 use Rattle.thallusweb.specs.ReadableWords.{SignReadWords, PassesWords}
-use Rattle.wat_laws.proofs.RecordLaws.{SaidOf, whole-decode}
+use Rattle.wat_laws.proofs.RecordLaws.{SaidOf, words-said, whole-decode}
 use Rattle.wat_values.proofs.ReadingLaws.{listed-stands}
 use Rattle.wat_values.proofs.Readable.{passes-readable}
 use Rattle.wat.proofs.KindNumbers.{injective}
@@ -182,6 +182,9 @@ passes-words {σ} {text} {list} {l = l} (ListedWords.listed {r = r} x) e =
       divided = whole .divided;
       division = whole .division;
       counted = count ∙ whole .counted;
+      decoded = λ i h.
+          let s = whole-decode sound whole i (omega (arith, count)) in
+          (s .before, s .after, s .token, s .parted, s .counted, words-said (s .said));
       kinds = λ i h. let s = whole-decode sound whole i (omega (arith, count)) in (s .token .kind, sym (s .said .kind-said));
       readable = λ i h k n′ n reader o takes.
           let s = whole-decode sound whole i (omega (arith, count)) in

@@ -5,7 +5,7 @@
 use Prim.Native.Nat.{ℕ, _≤_, _<_}
 use mathlib.Core.Path.{_≡_}
 use mathlib.Core.Logic.{_↔_}
-use mathlib.Core.List.{List, [], _∷_}
+use mathlib.Core.List.{List, [], _∷_, _++_}
 use mathlib.Core.Option.{some}
 use lib.ListN.{length, getD, take, drop}
 use Rattle.wat.specs.declared.{Sign.Sign, TokenKind.TokenKind, LexError.LexError, Settings.Settings}
@@ -13,7 +13,7 @@ use Rattle.wat.specs.declared.TokenKind.the-variants as kind
 use Rattle.wat.specs.declared.{IntegerKind.IntegerKind, FloatKind.FloatKind, Refusal.the-variants.Lexical}
 use Rattle.wat.specs.Cases.{flag, kindNumber}
 use Rattle.wat.specs.Numbers.{negative}
-use Rattle.wat.specs.Division.{Piece, Divided}
+use Rattle.wat.specs.Division.{Piece, lengths, Divided}
 use Rattle.wat.specs.Whole.{Division}
 use Rattle.wat_laws.specs.Records.{kindAt, tokenWords}
 use Rattle.wat_values.specs.Values.{Reader, Takes, Value, Reads}
@@ -95,7 +95,10 @@ pub record PassesWords (σ : Settings) (text out l : List ℕ) : Type 0 where
   pub divided : Divided σ text tokens []
   pub division : Division σ text tokens
   pub counted : getD out 5 0 ≡ length tokens
-  -- each record has the number of a kind
+  -- the i-th record is the i-th of these tokens: its kind's number, the lengths before it, its own
+  pub decoded : (i : ℕ) → i < getD out 5 0 → (us vs : List Piece) × (t : Piece) × (tokens ≡ us ++ (t ∷ vs))
+      × (length us ≡ i) × (tokenWords l i ≡ kindNumber (t .kind) ∷ lengths us ∷ t .len ∷ [])
+  -- so each record has the number of a kind
   pub kinds : (i : ℕ) → i < getD out 5 0 → (k : TokenKind) × (kindNumber k ≡ kindAt l i)
   -- each token can be read by each reader that takes its kind
   pub readable : (i : ℕ) → i < getD out 5 0 → (k : TokenKind) → kindNumber k ≡ kindAt l i → (n : ℕ) (reader : Reader)
