@@ -9,7 +9,7 @@ mod lexer;
 use lexer::Lexer;
 use std::hint::black_box;
 use std::time::{Duration, Instant};
-use thallusweb::lexer::{Lexer as Ours, Listed, Stop, check_utf8};
+use thallusweb::lexer::{Lexer as Ours, Listed, Reader, Stop, check_utf8};
 
 mod token {
     pub struct Span {
@@ -211,6 +211,49 @@ fn main() {
         grows(&format!("iter, {name}"), rounds, &texts, iter, |text| {
             Lexer::new(text).iter(0).count()
         });
+    }
+    for (text, reader) in [
+        ("local", Reader::Src),
+        ("12345", Reader::Integer),
+        ("$name", Reader::Id),
+        ("\"abc\"", Reader::String),
+    ] {
+        one_read(rounds, text, reader);
+    }
+}
+
+/// The time of one read of a token that is the whole of a short text.
+fn one_read(rounds: u32, text: &str, reader: Reader) {
+    const READS: u32 = 100_000;
+    let token = Ours::new(text)
+        .parse(&mut 0)
+        .expect("a token")
+        .expect("a token");
+    let original = Lexer::new(text)
+        .parse(&mut 0)
+        .expect("a token")
+        .expect("a token");
+    let (ours, theirs) = best(
+        rounds,
+        || (0..READS).for_each(|_| _ = black_box(token.read(black_box(text), reader))),
+        || (0..READS).for_each(|_| read_by_the_original(original, black_box(text))),
+    );
+    println!(
+        "{:34} {:>3} bytes  {:>5.2}   {:>7} and {:>7} ns",
+        format!("one read, {text}"),
+        text.len(),
+        ours.as_secs_f64() / theirs.as_secs_f64(),
+        (ours / READS).as_nanos(),
+        (theirs / READS).as_nanos()
+    );
+}
+
+fn read_by_the_original(token: lexer::Token, text: &str) {
+    match token.kind {
+        lexer::TokenKind::Id => _ = black_box(token.id(text)),
+        lexer::TokenKind::String => _ = black_box(token.string(text)),
+        lexer::TokenKind::Integer(kind) => _ = black_box(token.integer(text, kind)),
+        _ => _ = black_box(token.src(text)),
     }
 }
 
