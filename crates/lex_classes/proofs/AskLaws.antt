@@ -1,7 +1,7 @@
 -- What the arms of a `match` show of wat's tests. Assumes nothing.
-use Prim.Native.Nat.{ℕ, zero, suc, _+_, _-_, _≤_, _<_}
-use mathlib.Core.Path.{_≡_, refl, sym}
-use mathlib.Core.Logic.{inl, inr}
+use Prim.Native.Nat.{ℕ, zero, suc, _+_, _-_, _*_, _/_, _%_, _≤_, _<_}
+use mathlib.Core.Path.{_≡_, refl, sym, ap, _∙_}
+use mathlib.Core.Logic.{inl, inr, ⊎-elim}
 use mathlib.Core.Bool.{Bool, true, false, _||_}
 use mathlib.Core.Option.{none, some}
 use mathlib.Core.List.{List, [], _∷_}
@@ -13,8 +13,9 @@ use Rattle.wat.specs.Bytes.{byte, between, has}
 use Rattle.wat.specs.Chars.{space, idchar, punctuation}
 use Rattle.wat.specs.declared.Family.the-variants.{Single as single, Other as other}
 use Rattle.wat.specs.LexModel.{family}
+use Rattle.wat.specs.Numbers.{digit}
 use Rattle.wat.specs.StringModel.{hexOf}
-use Rattle.wat.proofs.Basics.{between-in, between-true}
+use Rattle.wat.proofs.Basics.{between-in, between-true, or-split, or-no}
 use Rattle.wat.specs.Utf8Model.{pick}
 use Rattle.wat.proofs.Utf8Rows.{pick-both}
 use Rattle.lex_classes.specs.Ask.{digitOf}
@@ -74,6 +75,10 @@ module _ (x : ℕ) (s : space x ≡ false) (o : x ≡ byte "(" → ⊥) (c : x �
 
 -- ---- hexadecimal digits
 
+-- its low four bits, and 9 for a letter
+abbrev value : ℕ → ℕ
+value b = b % 16 + 9 * (b / 64)
+
 between-out : (lo hi b : ℕ) → (lo ≤ b → b ≤ hi → ⊥) → between lo hi b ≡ false
 between-out lo hi b n = go (between lo hi b) refl
   where
@@ -81,25 +86,50 @@ between-out lo hi b n = go (between lo hi b) refl
     go true e = let w = between-true lo hi b e in absurd (n (w .0) (w .1))
     go false e = e
 
-digit-of : (c d : ℕ) → d < 16 → hexOf c ≡ some d → hexOf c ≡ digitOf d
-digit-of c d h e = rw (lt-ltb d 16 h, digitOf) e
-
-module _ (c : ℕ) where
-  pub hex-decimal : 0x30 ≤ c → c ≤ 0x39 → hexOf c ≡ digitOf (c - 0x30)
+module _ (b : ℕ) where
+  hex-decimal : 0x30 ≤ b → b ≤ 0x39 → hexOf b ≡ some (b - 0x30)
   unfolding hexOf
-  hex-decimal l h = digit-of c (c - 0x30) (omega arith) (rw (between-in 0x30 0x39 c l h, hexOf))
+  hex-decimal l h = rw (between-in 0x30 0x39 b l h, hexOf)
 
-  pub hex-upper : 0x41 ≤ c → c ≤ 0x46 → hexOf c ≡ digitOf (c - 0x37)
+  hex-upper : 0x41 ≤ b → b ≤ 0x46 → hexOf b ≡ some (b - 0x37)
   unfolding hexOf
-  hex-upper l h = digit-of c (c - 0x37) (omega arith) (rw (between-out 0x30 0x39 c (omega arith), between-in 0x41 0x46 c l h, hexOf))
+  hex-upper l h = rw (between-out 0x30 0x39 b (omega arith), between-in 0x41 0x46 b l h, hexOf)
 
-  pub hex-lower : 0x61 ≤ c → c ≤ 0x66 → hexOf c ≡ digitOf (c - 0x57)
+  hex-lower : 0x61 ≤ b → b ≤ 0x66 → hexOf b ≡ some (b - 0x57)
   unfolding hexOf
   hex-lower l h =
-      digit-of c (c - 0x57) (omega arith)
-      (rw (between-out 0x30 0x39 c (omega arith), between-out 0x41 0x46 c (omega arith), between-in 0x61 0x66 c l h, hexOf))
+      rw (between-out 0x30 0x39 b (omega arith), between-out 0x41 0x46 b (omega arith), between-in 0x61 0x66 b l h, hexOf)
 
-  pub hex-none : (0x30 ≤ c → c ≤ 0x39 → ⊥) → (0x41 ≤ c → c ≤ 0x46 → ⊥) → (0x61 ≤ c → c ≤ 0x66 → ⊥)
-      → hexOf c ≡ none
-  unfolding hexOf
-  hex-none p q r = rw (between-out 0x30 0x39 c p, between-out 0x41 0x46 c q, between-out 0x61 0x66 c r, hexOf)
+  is : (d : ℕ) → d < 16 → d ≡ value b → hexOf b ≡ some d → (hexOf b ≡ some (value b)) × (value b < 16)
+  is d h q e = (e ∙ ap some q, omega (arith, h, q))
+
+  -- the value of a digit by its bits
+  pub hex-is : digit true b ≡ true → (hexOf b ≡ some (value b)) × (value b < 16)
+  unfolding digit
+  hex-is e =
+      ⊎-elim (λ p. let w = between-true (byte "0") (byte "9") b p in
+      is (b - 0x30) (omega arith) (omega arith) (hex-decimal (w .0) (w .1)))
+      (λ e.
+      ⊎-elim (λ p. let w = between-true (byte "A") (byte "F") b p in is (b - 0x37) (omega arith) (omega arith) (hex-upper (w .0) (w .1)))
+      (λ p. let w = between-true (byte "a") (byte "f") b p in is (b - 0x57) (omega arith) (omega arith) (hex-lower (w .0) (w .1)))
+      (or-split (between (byte "A") (byte "F") b) (between (byte "a") (byte "f") b) e)) (or-split (between (byte "0") (byte "9") b) _ e)
+
+  pub hex-digit : digit true b ≡ true → hexOf b ≡ digitOf (value b)
+  hex-digit e = let (q, h) = hex-is e in rw (lt-ltb (value b) 16 h, digitOf) q
+
+  pub hex-none : digit true b ≡ false → hexOf b ≡ none
+  unfolding hexOf digit
+  hex-none e =
+      let p = or-no (between (byte "0") (byte "9") b) _ e in
+      let q = or-no (between (byte "A") (byte "F") b) _ (p .1) in
+      rw (p .0, q .0, q .1, hexOf)
+
+  -- no digit is beyond a byte
+  pub digit-far : 0xff < b → digit true b ≡ false
+  unfolding digit
+  digit-far h =
+      rw (
+        between-out (byte "0") (byte "9") b (omega arith),
+        between-out (byte "A") (byte "F") b (omega arith),
+        between-out (byte "a") (byte "f") b (omega arith),
+      )

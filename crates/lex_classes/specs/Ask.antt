@@ -1,9 +1,14 @@
--- The answer of the code for wat's `hexOf`.
+-- What is asked of a byte or a character beside wat's tests.
 use Prim.Native.Nat.{ℕ}
-use mathlib.Core.Bool.{true, false}
+use mathlib.Core.Bool.{Bool, true, false, _&&_, not}
 use mathlib.Core.Option.{Option, none, some}
-use lib.Dec.{ltb}
+use lib.Dec.{ltb, eqb}
+use Rattle.wat.specs.Bytes.{byte, between}
 
 -- a digit's value as a number: 16 is none
 abbrev pub digitOf : ℕ → Option ℕ
 digitOf n = elim (ltb n 16) [ true ↦ some n | false ↦ none ]
+
+-- an ASCII character that stands in a string for itself: not refused by 12, no `"` and no `\`
+unfoldable pub raw : ℕ → Bool
+raw b = between 0x20 0x7E b && (not (eqb b (byte "\"")) && not (eqb b (byte "\\")))

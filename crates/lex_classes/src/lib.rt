@@ -3,20 +3,19 @@
 
 ghost use mathlib.Core.Path.{_≡_};
 ghost use mathlib.Core.Bool.{true, false};
-ghost use Prim.Native.Nat.{_≤_};
+ghost use Prim.Native.Nat.{_+_, _*_, _/_, _%_, _≤_};
 ghost use lib.ListN.{length};
+ghost use Rattle.wat.specs.Bytes.{between};
+ghost use Rattle.wat.specs.Numbers.{digit};
 ghost use Rattle.wat.specs.Chars.{idchar, space, punctuation, letter, isScalar, control, confusing};
 ghost use Rattle.wat.specs.LexModel.{family};
 ghost use Rattle.wat.specs.StringModel.{hexOf};
 ghost use Rattle.lex_classes.specs.Table.{Marked, Classes};
-ghost use Rattle.lex_classes.specs.Ask.{digitOf};
+ghost use Rattle.lex_classes.specs.Ask.{digitOf, raw};
 ghost use Rattle.lex_classes.specs.Scan.{Scanned};
 use wat::Family;
 
-// This table is a byte lookup table to determine whether a byte is a
-// whitespace byte. There are only 4 whitespace bytes for the `*.wat`
-// format right now which are ' ', '\t', '\r', and '\n'. These 4 bytes
-// have a '1' in the table below.
+// A byte lookup table: 1 for the 4 whitespace bytes of the `*.wat` format, ' ', '\t', '\r' and '\n'.
 #[rattlefmt::skip]
 const WS: [u8; 256] = [
     //                                   \t \n       \r
@@ -78,8 +77,7 @@ fn idchars() -> [u8; 256]
     IDCHARS
 }
 
-// The table to lend: 1 for white space, and 2 for an idchar. It is made once for a call that reads many bytes, since a
-// constant array is copied wherever it is named.
+// The table to lend: 1 for white space, 2 for an idchar. A constant array is copied wherever it is named.
 pub fn table() -> [u8; 256]
     ensures { λ r. ⌜ Classes r ⌝ }
 {
@@ -144,28 +142,62 @@ pub fn begins(t: &[u8; 256], b: u8) -> Family
 }
 
 // a to z: what a keyword begins with.
-pub fn is_letter(b: u8) -> bool
+pub fn is_letter(t: &[u8; 256], b: u8) -> bool
+    requires { ⌜ Classes (now t) ⌝ }
     ensures { λ r. ⌜ r ≡ letter b ⌝ }
 {
     (b'a' <= b) & (b <= b'z')
 }
 
-// The value of a hexadecimal digit (0 to 9, A to F, a to f), or 16 for any other character.
-pub fn to_hex(c: u32) -> u8
-    ensures { λ r. ⌜ hexOf c ≡ digitOf r ⌝ }
+// A digit: 0 to 9, and A to F and a to f where it is hexadecimal.
+pub fn is_digit(t: &[u8; 256], hex: bool, b: u8) -> bool
+    requires { ⌜ Classes (now t) ⌝ }
+    ensures { λ r. ⌜ r ≡ digit hex b ⌝ }
 {
-    match c {
-        0x30..=0x39 => (c - 0x30) as u8,
-        0x41..=0x46 => (c - 0x37) as u8,
-        0x61..=0x66 => (c - 0x57) as u8,
-        _ => 16,
-    }
+    in_range(b'0', b'9', b) | (hex & (in_range(b'A', b'F', b) | in_range(b'a', b'f', b)))
 }
 
-pub fn is_control(c: u32) -> bool
+fn in_range(lo: u8, hi: u8, x: u8) -> bool
+    ensures { λ r. ⌜ r ≡ between lo hi x ⌝ }
+{
+    (lo <= x) & (x <= hi)
+}
+
+// The value of a hexadecimal digit: its low four bits, and 9 for a letter.
+pub fn hex_value(b: u8) -> u32
+    ensures { λ r. ⌜ r ≡ b % 16 + 9 * (b / 64) ⌝ }
+{
+    (b as u32) % 16 + 9 * ((b as u32) / 64)
+}
+
+// The value of a character that is a hexadecimal digit, or 16 for any other.
+pub fn to_hex(t: &[u8; 256], c: u32) -> u8
+    requires { ⌜ Classes (now t) ⌝ }
+    ensures { λ r. ⌜ hexOf c ≡ digitOf r ⌝ }
+{
+    if 0xff < c {
+        return 16;
+    }
+    let b = c as u8;
+    if is_digit(t, true, b) {
+        return hex_value(b) as u8;
+    }
+    16
+}
+
+pub fn is_control(t: &[u8; 256], c: u32) -> bool
+    requires { ⌜ Classes (now t) ⌝ }
     ensures { λ r. ⌜ r ≡ control c ⌝ }
 {
     (c < 0x20) | (c == 0x7f)
+}
+
+// An ASCII character that a string holds as it is: none that 12 refuses, no `"` and no `\`.
+pub fn is_raw(t: &[u8; 256], b: u8) -> bool
+    requires { ⌜ Classes (now t) ⌝ }
+    ensures { λ r. ⌜ r ≡ raw b ⌝ }
+{
+    in_range(0x20, 0x7e, b) & ((b != b'"') & (b != b'\\'))
 }
 
 pub fn is_scalar(n: u32) -> bool
@@ -185,8 +217,7 @@ pub fn is_confusing_unicode(c: u32) -> bool
 }
 
 // https://webassembly.github.io/spec/core/text/lexical.html#white-space
-// The place behind the white space from `at` on. In UTF-8 the four bytes stand for themselves alone, so that no
-// character is decoded.
+// The place behind the white space from `at` on: four bytes that stand in UTF-8 for themselves alone.
 pub fn skip_ws(s: &[u8], at: usize, t: &[u8; 256]) -> usize
     requires { ⌜ at ≤ length (now s) ⌝ }
     requires { ⌜ Classes (now t) ⌝ }

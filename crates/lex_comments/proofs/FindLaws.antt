@@ -14,10 +14,10 @@ use lib.ListN.{length, getD, take, drop, length-drop}
 use lib.Seq.{take-suc, getD-drop, length-take-le}
 use borrow.Author.Tests.{eq-eqb, ne-eqb, eqb-false, ltb-true, ltb-false}
 use Rattle.wat.specs.Bytes.{has, Each, none, next}
+use Rattle.wat.specs.Cases.{flag}
 use Rattle.wat.specs.LexModel.{count}
 use Rattle.wat.proofs.Basics.{never}
 use Rattle.lex_classes.specs.Scan.{Passed, Scanned}
-use Rattle.lex_classes.specs.Table.{mark}
 use Rattle.lex_classes.proofs.ScanLaws.{count-each, count-stop, count-next, passed-stop, passed-end, passed-all, passed-more}
 use Rattle.lex_comments.specs.Find.{among, Sought, Skipped}
 
@@ -55,10 +55,10 @@ module _ (x : ℕ) (s : List ℕ) (i k : ℕ) (h : i + k < length s) where
 -- the bytes that pass, as a number's binary digits, the lowest for the first byte; a 1 stands above them all
 unfoldable pub bits : (ℕ → Bool) → List ℕ → ℕ
 bits test [] = 1
-bits test (b ∷ w) = mark (test b) + 2 * bits test w
+bits test (b ∷ w) = flag (test b) 1 + 2 * bits test w
 
 bits-append : (test : ℕ → Bool) (b : ℕ) (w : List ℕ)
-    → bits test (w ++ (b ∷ [])) ≡ bits test w + (1 + mark (test b)) * 2 ^ length w
+    → bits test (w ++ (b ∷ [])) ≡ bits test w + (1 + flag (test b) 1) * 2 ^ length w
 unfolding bits
 bits-append test b [] = omega arith
 bits-append test b (a ∷ w) = rw (bits-append test b w, pow-suc) (omega arith)
@@ -95,7 +95,7 @@ pub digits-small : {test : ℕ → Bool} {d : List ℕ} {k m p : ℕ} → Digits
 digits-small {k = k} g h = omega (arith, g .power, pow-mono {i = k} {j = 16} h)
 
 module _ (test : ℕ → Bool) (s : List ℕ) (i k m p : ℕ) (h : i + k < length s) (g : Digits test (drop i s) k m p) where
-  bits-next : bits test (take (k + 1) (drop i s)) ≡ bits test (take k (drop i s)) + (1 + mark (test (getD s (i + k) 0))) * p
+  bits-next : bits test (take (k + 1) (drop i s)) ≡ bits test (take k (drop i s)) + (1 + flag (test (getD s (i + k) 0)) 1) * p
   bits-next =
       let l : length (take k (drop i s)) ≡ k = length-take-le k (drop i s) (omega (arith, length-drop i s)) in
       rw (take-next s i k h, bits-append, l, g .power)

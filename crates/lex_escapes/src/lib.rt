@@ -3,12 +3,12 @@
 // element's first byte.
 
 ghost use mathlib.Core.Path.{_≡_};
-ghost use mathlib.Core.Bool.{true, false};
 ghost use Prim.Native.Nat.{_+_, _≤_, _<_};
 ghost use lib.ListN.{length, getD, drop};
 ghost use Rattle.wat.specs.Strings.{escapes};
 ghost use Rattle.wat.specs.StringModel as model;
 ghost use Rattle.utf8_chars.specs.Decoding.{Decodes};
+ghost use Rattle.lex_classes.specs.Table.{Classes};
 ghost use Rattle.lex_escapes.specs.Elements.{letterOf, Says};
 use utf8_chars::Decoded;
 use wat::Fault;
@@ -27,7 +27,8 @@ pub enum Read {
 }
 
 // An element or the closing quote, at any position of any bytes; where no character stands, the text ends for it.
-pub fn element(s: &[u8], at: usize, settings: Settings) -> Read
+pub fn element(s: &[u8], at: usize, settings: Settings, t: &[u8; 256]) -> Read
+    requires { ⌜ Classes (now t) ⌝ }
     ensures { λ r. ⌜ Says (drop at (now (s .entry))) (model.read settings (drop at (now (s .entry)))) r ⌝ }
 {
     if s.len() <= at {
@@ -45,10 +46,10 @@ pub fn element(s: &[u8], at: usize, settings: Settings) -> Read
         return Read::Quote;
     }
     if b == b'\\' {
-        return escape(s, at, settings);
+        return escape(s, at, settings, t);
     }
     let value = wide(b);
-    if lex_classes::is_control(value) {
+    if lex_classes::is_control(t, value) {
         return Read::Refused(Fault {
             error: LexError::InvalidStringElement(value),
             place: 0,
@@ -91,8 +92,9 @@ fn hides(settings: Settings, c: u32) -> bool
 }
 
 // The escape that starts at `at`, after its `\`.
-fn escape(s: &[u8], at: usize, settings: Settings) -> Read
+fn escape(s: &[u8], at: usize, settings: Settings, t: &[u8; 256]) -> Read
     requires { ⌜ at + 1 ≤ length (now s) ⌝ }
+    requires { ⌜ Classes (now t) ⌝ }
     ensures { λ r. ⌜ Says (drop at (now (s .entry)))
         (model.escapeBy settings (model.peek (drop (at + 1) (now (s .entry))))) r ⌝ }
 {
@@ -104,15 +106,15 @@ fn escape(s: &[u8], at: usize, settings: Settings) -> Read
         });
     };
     if value == b'u' as u32 {
-        return unicode::open_brace(s, at, settings);
+        return unicode::open_brace(s, at, settings, t);
     }
     let v = letter(value);
     if v != 0 {
         return Read::Byte { value: v, len: 2 };
     }
-    let d = lex_classes::to_hex(value);
+    let d = lex_classes::to_hex(t, value);
     if d < 16 {
-        return second_digit(s, at, d);
+        return second_digit(s, at, d, t);
     }
     Read::Refused(Fault {
         error: LexError::InvalidStringEscape(value),
@@ -137,8 +139,9 @@ fn letter(c: u32) -> u8
 }
 
 // After `\` and a digit of value `high`: the Rust's `hexdigit`.
-fn second_digit(s: &[u8], at: usize, high: u8) -> Read
+fn second_digit(s: &[u8], at: usize, high: u8, t: &[u8; 256]) -> Read
     requires { ⌜ (at + 2 ≤ length (now s)) × (high < 16) ⌝ }
+    requires { ⌜ Classes (now t) ⌝ }
     ensures { λ r. ⌜ Says (drop at (now (s .entry)))
         (model.secondBy high (model.peek (drop (at + 2) (now (s .entry))))) r ⌝ }
 {
@@ -149,7 +152,7 @@ fn second_digit(s: &[u8], at: usize, high: u8) -> Read
             after: 2,
         });
     };
-    let d = lex_classes::to_hex(value);
+    let d = lex_classes::to_hex(t, value);
     if d < 16 {
         return Read::Byte {
             value: high * 16 + d,

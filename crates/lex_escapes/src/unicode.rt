@@ -5,6 +5,7 @@ ghost use Prim.Native.Nat.{_+_, _≤_};
 ghost use lib.ListN.{length, drop};
 ghost use Rattle.wat.specs.Chars.{isScalar};
 ghost use Rattle.wat.specs.StringModel as model;
+ghost use Rattle.lex_classes.specs.Table.{Classes};
 ghost use Rattle.lex_escapes.specs.Elements.{consumed, Counted, Says};
 use super::Read;
 use super::must_char;
@@ -16,8 +17,9 @@ use wat::Num;
 use wat::Settings;
 
 // After `\u`: the Rust's `must_eat_char` for `{`.
-pub fn open_brace(s: &[u8], at: usize, settings: Settings) -> Read
+pub fn open_brace(s: &[u8], at: usize, settings: Settings, t: &[u8; 256]) -> Read
     requires { ⌜ at + 2 ≤ length (now s) ⌝ }
+    requires { ⌜ Classes (now t) ⌝ }
     ensures { λ r. ⌜ Says (drop at (now (s .entry)))
         (model.braceBy settings (model.peek (drop (at + 2) (now (s .entry))))) r ⌝ }
 {
@@ -29,7 +31,7 @@ pub fn open_brace(s: &[u8], at: usize, settings: Settings) -> Read
         });
     };
     if value == b'{' as u32 {
-        return first_digit(s, at, settings);
+        return first_digit(s, at, settings, t);
     }
     Read::Refused(Fault {
         error: LexError::Expected {
@@ -42,8 +44,9 @@ pub fn open_brace(s: &[u8], at: usize, settings: Settings) -> Read
 }
 
 // After `\u{`: the Rust's `hexnum` up to its loop.
-fn first_digit(s: &[u8], at: usize, settings: Settings) -> Read
+fn first_digit(s: &[u8], at: usize, settings: Settings, t: &[u8; 256]) -> Read
     requires { ⌜ at + 3 ≤ length (now s) ⌝ }
+    requires { ⌜ Classes (now t) ⌝ }
     ensures { λ r. ⌜ Says (drop at (now (s .entry)))
         (model.firstBy settings (model.peek (drop (at + 3) (now (s .entry))))) r ⌝ }
 {
@@ -54,9 +57,9 @@ fn first_digit(s: &[u8], at: usize, settings: Settings) -> Read
             after: 3,
         });
     };
-    let d = lex_classes::to_hex(value);
+    let d = lex_classes::to_hex(t, value);
     if d < 16 {
-        return unicode_value(s, at, wide(d), settings);
+        return unicode_value(s, at, wide(d), settings, t);
     }
     Read::Refused(Fault {
         error: LexError::InvalidHexDigit(value),
@@ -66,13 +69,14 @@ fn first_digit(s: &[u8], at: usize, settings: Settings) -> Read
 }
 
 // After `\u{` and a digit of value `first`. The number must be a scalar value before `}` is looked for.
-fn unicode_value(s: &[u8], at: usize, first: u32, settings: Settings) -> Read
+fn unicode_value(s: &[u8], at: usize, first: u32, settings: Settings, t: &[u8; 256]) -> Read
     requires { ⌜ at + 4 ≤ length (now s) ⌝ }
+    requires { ⌜ Classes (now t) ⌝ }
     ensures { λ r. ⌜ Says (drop at (now (s .entry)))
         (model.numberBy (drop (at + 3) (now (s .entry)))
         (model.digits settings false first 1 (drop (at + 4) (now (s .entry))))) r ⌝ }
 {
-    match hexnum(s, at + 4, first, settings) {
+    match hexnum(s, at + 4, first, settings, t) {
         Num::Is { value, len } => {
             if lex_classes::is_scalar(value) {
                 return close_brace(s, at, value, len);
@@ -130,8 +134,9 @@ fn close_brace(s: &[u8], at: usize, value: u32, len: usize) -> Read
 }
 
 // The number of `\u{..}` whose first digit has the value `first` and ends at `at`: the loop of the Rust's `hexnum`.
-fn hexnum(s: &[u8], at: usize, first: u32, settings: Settings) -> Num
+fn hexnum(s: &[u8], at: usize, first: u32, settings: Settings, t: &[u8; 256]) -> Num
     requires { ⌜ at ≤ length (now s) ⌝ }
+    requires { ⌜ Classes (now t) ⌝ }
     ensures { λ r. ⌜ Counted (drop at (now (s .entry)))
         (model.digits settings false first 1 (drop at (now (s .entry)))) r ⌝ }
 {
@@ -144,7 +149,7 @@ fn hexnum(s: &[u8], at: usize, first: u32, settings: Settings) -> Num
             under = true;
             i += 1;
         } else {
-            let d = lex_classes::to_hex(wide(b));
+            let d = lex_classes::to_hex(t, wide(b));
             if 16 <= d {
                 return close(under, value, 1 + (i - at));
             }

@@ -7,10 +7,10 @@ ghost use lib.Seq.{slice};
 ghost use Rattle.wat.specs.Numbers.{marks, negative, prefix};
 ghost use Rattle.wat.specs.NumberModel.{past, run, is, fraction, exponent};
 ghost use Rattle.wat.specs.NumberModel.{at-end, then, decide, payload, finite, unsigned};
+ghost use Rattle.lex_classes.specs.Table.{Classes};
 ghost use Rattle.lex_numbers.specs.Places.{left-at, Within, Skipped, Begins};
 use super::Skip;
 use super::fraction_at;
-use super::is_digit;
 use super::past_sign;
 use super::skip_underscores;
 use wat::Number;
@@ -67,8 +67,9 @@ fn is_mark(hex: bool, c: u8) -> bool
     (c == b'e') | (c == b'E')
 }
 
-fn exponent_at(text: &[u8], at: usize, end: usize, hex: bool) -> Skip
+fn exponent_at(text: &[u8], at: usize, end: usize, hex: bool, t: &[u8; 256]) -> Skip
     requires { ⌜ (at ≤ end) × (end ≤ length (now text)) ⌝ }
+    requires { ⌜ Classes (now t) ⌝ }
     ensures { λ r. ⌜ Skipped (now (text .entry)) end (exponent hex (slice at end (now (text .entry)))) r ⌝ }
 {
     if at == end {
@@ -79,27 +80,28 @@ fn exponent_at(text: &[u8], at: usize, end: usize, hex: bool) -> Skip
     }
     if is_mark(hex, text[at]) {
         let next = past_sign(text, at + 1, end);
-        return skip_underscores(text, next, end, false);
+        return skip_underscores(text, next, end, false, t);
     }
     Skip::Bad
 }
 
 // What follows the digits of a float: a fraction, an exponent, and nothing more. `seen` says whether the digits have
 // an underscore.
-fn float_at(text: &[u8], at: usize, end: usize, hex: bool, seen: bool) -> Number
+fn float_at(text: &[u8], at: usize, end: usize, hex: bool, seen: bool, t: &[u8; 256]) -> Number
     requires { ⌜ (at ≤ end) × (end ≤ length (now text)) ⌝ }
+    requires { ⌜ Classes (now t) ⌝ }
     ensures { λ r. ⌜ r ≡ at-end
         (then (then (past seen (slice at end (now (text .entry)))) (fraction hex)) (exponent hex))
         (Number.Normal hex) ⌝ }
 {
-    let f = fraction_at(text, at, end, hex);
+    let f = fraction_at(text, at, end, hex, t);
     match f {
         Skip::Bad => Number::Neither,
         Skip::To {
             underscores: g,
             at: j,
         } => {
-            let e = exponent_at(text, j, end, hex);
+            let e = exponent_at(text, j, end, hex, t);
             match e {
                 Skip::Bad => Number::Neither,
                 Skip::To {
@@ -120,8 +122,9 @@ fn float_at(text: &[u8], at: usize, end: usize, hex: bool, seen: bool) -> Number
 }
 
 // The kind of a number whose digits are passed.
-fn decide_at(text: &[u8], digits: Skip, end: usize, sign: Sign, hex: bool) -> Number
+fn decide_at(text: &[u8], digits: Skip, end: usize, sign: Sign, hex: bool, t: &[u8; 256]) -> Number
     requires { ⌜ Within end digits × (end ≤ length (now text)) ⌝ }
+    requires { ⌜ Classes (now t) ⌝ }
     ensures { λ r. ⌜ r ≡ decide sign hex (left-at (now (text .entry)) end digits) ⌝ }
 {
     match digits {
@@ -134,38 +137,41 @@ fn decide_at(text: &[u8], digits: Skip, end: usize, sign: Sign, hex: bool) -> Nu
                     underscores: underscores,
                 };
             }
-            float_at(text, at, end, hex, underscores)
+            float_at(text, at, end, hex, underscores, t)
         }
     }
 }
 
 // Passes the digits of a number, which stand after 0x where it is hexadecimal.
 // Each call names its radix, so that each loop is compiled for its own.
-fn digits_at(text: &[u8], at: usize, end: usize, hex: bool) -> Skip
+fn digits_at(text: &[u8], at: usize, end: usize, hex: bool, t: &[u8; 256]) -> Skip
     requires { ⌜ (at + length (prefix hex) ≤ end) × (end ≤ length (now text)) ⌝ }
+    requires { ⌜ Classes (now t) ⌝ }
     ensures { λ r. ⌜ Skipped (now (text .entry)) end
         (run hex true (slice (at + length (prefix hex)) end (now (text .entry)))) r ⌝ }
 {
     if hex {
-        return skip_underscores(text, at + 2, end, true);
+        return skip_underscores(text, at + 2, end, true, t);
     }
-    skip_underscores(text, at, end, false)
+    skip_underscores(text, at, end, false, t)
 }
 
-fn finite_at(text: &[u8], at: usize, end: usize, sign: Sign) -> Number
+fn finite_at(text: &[u8], at: usize, end: usize, sign: Sign, t: &[u8; 256]) -> Number
     requires { ⌜ (at ≤ end) × (end ≤ length (now text)) ⌝ }
+    requires { ⌜ Classes (now t) ⌝ }
     ensures { λ r. ⌜ r ≡ finite sign (slice at end (now (text .entry))) ⌝ }
 {
     let hex = starts(text, at, end, b"0x");
-    let digits = digits_at(text, at, end, hex);
-    decide_at(text, digits, end, sign, hex)
+    let digits = digits_at(text, at, end, hex, t);
+    decide_at(text, digits, end, sign, hex, t)
 }
 
-fn payload_at(text: &[u8], at: usize, end: usize, sign: Sign) -> Number
+fn payload_at(text: &[u8], at: usize, end: usize, sign: Sign, t: &[u8; 256]) -> Number
     requires { ⌜ (at ≤ end) × (end ≤ length (now text)) ⌝ }
+    requires { ⌜ Classes (now t) ⌝ }
     ensures { λ r. ⌜ r ≡ payload sign (run true true (slice at end (now (text .entry)))) ⌝ }
 {
-    let digits = skip_underscores(text, at, end, true);
+    let digits = skip_underscores(text, at, end, true, t);
     match digits {
         Skip::Bad => Number::Neither,
         Skip::To { underscores, at: i } => {
@@ -181,15 +187,16 @@ fn payload_at(text: &[u8], at: usize, end: usize, sign: Sign) -> Number
 }
 
 // The kind of what follows a sign. The first byte tells most words that are no number.
-pub fn unsigned_at(text: &[u8], at: usize, end: usize, sign: Sign) -> Number
+pub fn unsigned_at(text: &[u8], at: usize, end: usize, sign: Sign, t: &[u8; 256]) -> Number
     requires { ⌜ (at ≤ end) × (end ≤ length (now text)) ⌝ }
+    requires { ⌜ Classes (now t) ⌝ }
     ensures { λ r. ⌜ r ≡ unsigned sign (slice at end (now (text .entry))) ⌝ }
 {
     if at == end {
         return Number::Neither;
     }
-    if is_digit(false, text[at]) {
-        return finite_at(text, at, end, sign);
+    if lex_classes::is_digit(t, false, text[at]) {
+        return finite_at(text, at, end, sign, t);
     }
     if is_word(text, at, end, b"inf") {
         return Number::Inf {
@@ -202,7 +209,7 @@ pub fn unsigned_at(text: &[u8], at: usize, end: usize, sign: Sign) -> Number
         };
     }
     if starts(text, at, end, b"nan:0x") {
-        return payload_at(text, at + 6, end, sign);
+        return payload_at(text, at + 6, end, sign, t);
     }
     Number::Neither
 }

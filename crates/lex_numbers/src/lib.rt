@@ -4,9 +4,9 @@ ghost use mathlib.Core.Bool.{true};
 ghost use Prim.Native.Nat.{_≤_};
 ghost use lib.ListN.{length};
 ghost use lib.Seq.{slice};
-ghost use Rattle.wat.specs.Bytes.{between};
-ghost use Rattle.wat.specs.Numbers.{digit, KindOf};
+ghost use Rattle.wat.specs.Numbers.{KindOf};
 ghost use Rattle.wat.specs.NumberModel.{run, fraction, sign-of};
+ghost use Rattle.lex_classes.specs.Table.{Classes};
 ghost use Rattle.lex_numbers.specs.Places.{Skipped, PastSign};
 use wat::Number;
 use wat::Sign;
@@ -20,22 +20,11 @@ pub enum Skip {
     To { underscores: bool, at: usize },
 }
 
-fn in_range(lo: u8, hi: u8, x: u8) -> bool
-    ensures { λ r. ⌜ r ≡ between lo hi x ⌝ }
-{
-    (lo <= x) & (x <= hi)
-}
-
-pub fn is_digit(hex: bool, c: u8) -> bool
-    ensures { λ r. ⌜ r ≡ digit hex c ⌝ }
-{
-    in_range(b'0', b'9', c) | (hex & (in_range(b'A', b'F', c) | in_range(b'a', b'f', c)))
-}
-
 // Passes the digits that the bytes from `at` to `end` begin with, and the single underscores between them.
 // What `is_digit` says is stored and not only branched on, so that a hex digit costs one jump, be it a letter or not.
-pub fn skip_underscores(text: &[u8], at: usize, end: usize, hex: bool) -> Skip
+pub fn skip_underscores(text: &[u8], at: usize, end: usize, hex: bool, t: &[u8; 256]) -> Skip
     requires { ⌜ (at ≤ end) × (end ≤ length (now text)) ⌝ }
+    requires { ⌜ Classes (now t) ⌝ }
     ensures { λ r. ⌜ Skipped (now (text .entry)) end (run hex true (slice at end (now (text .entry)))) r ⌝ }
 {
     let mut i = at;
@@ -43,7 +32,7 @@ pub fn skip_underscores(text: &[u8], at: usize, end: usize, hex: bool) -> Skip
     let mut seen = false;
     while i < end {
         let c = text[i];
-        let digit = is_digit(hex, c);
+        let digit = lex_classes::is_digit(t, hex, c);
         if digit | (!must & (c == b'_')) {
             seen = seen | !digit;
             must = !digit;
@@ -98,8 +87,9 @@ pub fn past_sign(text: &[u8], at: usize, end: usize) -> usize
     at
 }
 
-pub fn fraction_at(text: &[u8], at: usize, end: usize, hex: bool) -> Skip
+pub fn fraction_at(text: &[u8], at: usize, end: usize, hex: bool, t: &[u8; 256]) -> Skip
     requires { ⌜ (at ≤ end) × (end ≤ length (now text)) ⌝ }
+    requires { ⌜ Classes (now t) ⌝ }
     ensures { λ r. ⌜ Skipped (now (text .entry)) end (fraction hex (slice at end (now (text .entry)))) r ⌝ }
 {
     if at == end {
@@ -121,8 +111,8 @@ pub fn fraction_at(text: &[u8], at: usize, end: usize, hex: bool) -> Skip
             at: next,
         };
     }
-    if is_digit(hex, text[next]) {
-        return skip_underscores(text, next, end, hex);
+    if lex_classes::is_digit(t, hex, text[next]) {
+        return skip_underscores(text, next, end, hex, t);
     }
     Skip::To {
         underscores: false,
@@ -131,11 +121,12 @@ pub fn fraction_at(text: &[u8], at: usize, end: usize, hex: bool) -> Skip
 }
 
 // The kind of the number that the bytes from `at` to `end` are.
-pub fn classify_number(text: &[u8], at: usize, end: usize) -> Number
+pub fn classify_number(text: &[u8], at: usize, end: usize, t: &[u8; 256]) -> Number
     requires { ⌜ (at ≤ end) × (end ≤ length (now text)) ⌝ }
+    requires { ⌜ Classes (now t) ⌝ }
     ensures { λ r. ⌜ KindOf (slice at end (now (text .entry))) r ⌝ }
 {
     let sign = sign_at(text, at, end);
     let next = past_sign(text, at, end);
-    classify::unsigned_at(text, next, end, sign)
+    classify::unsigned_at(text, next, end, sign, t)
 }

@@ -1,17 +1,16 @@
 -- Laws of the fast paths: raw characters, and two digits. Assumes nothing.
-use Prim.Native.Nat.{ℕ, suc, _+_, _-_, _*_, _/_, _%_, _≤_, _<_}
+use Prim.Native.Nat.{ℕ, suc, _+_, _-_, _*_, _≤_, _<_}
 use mathlib.Core.Path.{_≡_, refl, sym, ap, _∙_}
-use mathlib.Core.Logic.{⊎-elim}
 use mathlib.Core.List.{List, [], _∷_, _++_, append-assoc, append-nil}
 use mathlib.Core.Option.{some}
-use mathlib.Core.Bool.{Bool, true, false, _&&_}
+use mathlib.Core.Bool.{Bool, true, false, _&&_, not}
 use native.Mathlib.Omega.{arith}
 use native.Mathlib.Numerals.{add-one, add-two}
+use lib.Dec.{eqb}
 use lib.ListN.{length, getD, take, drop}
 use lib.Seq.{take-add, drop-cons, drop-drop, slice, slice-empty, slice-cons}
-use borrow.Author.Tests.{le-ltb, eq-eqb, ne-eqb}
+use borrow.Author.Tests.{le-ltb, eq-eqb, ne-eqb, eqb-false, not-true}
 use Rattle.wat.specs.Bytes.{byte, between, has}
-use Rattle.wat.specs.Numbers.{digit}
 use Rattle.wat.specs.declared.Settings.{Settings}
 use Rattle.wat.specs.Utf8.{_‥_, table, Fits, Char, scalar}
 use Rattle.wat.specs.Chars.{control}
@@ -20,14 +19,13 @@ use Rattle.wat.specs.StringModel.{hexOf, read}
 use Rattle.wat.proofs.Utf8Rows.{char-of}
 use Rattle.wat.proofs.Utf8Laws.{row-at}
 use Rattle.wat.proofs.Scalars.{ascii}
-use Rattle.wat.proofs.Basics.{between-true, differ, or-split}
+use Rattle.wat.proofs.Basics.{between-true, differ}
 use Rattle.wat.proofs.HexDigits.{of-hex}
 use Rattle.wat.proofs.ElementReads.{elem-read}
-use Rattle.lex_classes.specs.Ask.{digitOf}
-use Rattle.lex_classes.proofs.AskLaws.{hex-decimal, hex-upper, hex-lower}
+use Rattle.lex_classes.specs.Ask.{raw}
 use Rattle.lex_escapes.specs.Elements.{Element}
 use Rattle.lex_strings.specs.Raw.{Raw, Raws}
-use Rattle.lex_escapes.proofs.CharLaws.{digit-is, confusing-not}
+use Rattle.lex_escapes.proofs.CharLaws.{confusing-not}
 use Rattle.lex_escapes.proofs.ElementLaws.{an-element}
 
 pub both : (a b : Bool) → a && b ≡ true → (a ≡ true) × (b ≡ true)
@@ -44,15 +42,18 @@ unfolding control
 raw-elem σ c x e ch h n f g k =
     Elem.raw ch (rw (e, le-ltb x 0x20 h, ne-eqb x 0x7F n)) (λ q. f (sym e ∙ q)) (λ q. g (sym e ∙ q)) (λ q. rw e (confusing-not x k))
 
-pub raw-one :
-    (s : List ℕ) (i : ℕ) → i < length s → 0x20 ≤ getD s i 0 → getD s i 0 < 0x7F → (getD s i 0 ≡ byte "\"" → ⊥)
-    → (getD s i 0 ≡ byte "\\" → ⊥) → Raw s i 1
-unfolding scalar
-raw-one s i h l k f g =
+pub raw-one : (s : List ℕ) (i : ℕ) → i < length s → raw (getD s i 0) ≡ true → Raw s i 1
+unfolding scalar raw
+raw-one s i h e =
     let b = getD s i 0 in
+    let w = both (between 0x20 0x7E b) _ e in
+    let k = between-true 0x20 0x7E b (w .0) in
+    let n = both (not (eqb b (byte "\""))) _ (w .1) in
+    let f = eqb-false b (byte "\"") (not-true _ (n .0)) in
+    let g = eqb-false b (byte "\\") (not-true _ (n .1)) in
     record {
       fits = omega arith;
-      is = λ o σ. rw (drop-cons s i 0 h) (raw-elem σ (b ∷ []) b refl (ascii b (omega arith)) l (omega arith) f g (omega arith));
+      is = λ o σ. rw (drop-cons s i 0 h) (raw-elem σ (b ∷ []) b refl (ascii b (omega arith)) (k .0) (omega arith) f g (omega arith));
     }
 
 pub raw-two :
@@ -126,19 +127,6 @@ raws-more s at i n r x h =
     }
 
 -- ---- two digits
-
-pub hex-is : (b : ℕ) → digit true b ≡ true → hexOf b ≡ some (b % 16 + 9 * (b / 64))
-unfolding digit
-hex-is b e =
-    ⊎-elim (λ p. let w = between-true (byte "0") (byte "9") b p in
-    is (b - 0x30) (omega arith) (omega arith) (hex-decimal b (w .0) (w .1)))
-    (λ e.
-    ⊎-elim (λ p. let w = between-true (byte "A") (byte "F") b p in is (b - 0x37) (omega arith) (omega arith) (hex-upper b (w .0) (w .1)))
-    (λ p. let w = between-true (byte "a") (byte "f") b p in is (b - 0x57) (omega arith) (omega arith) (hex-lower b (w .0) (w .1)))
-    (or-split (between (byte "A") (byte "F") b) (between (byte "a") (byte "f") b) e)) (or-split (between (byte "0") (byte "9") b) _ e)
-  where
-    is : (d : ℕ) → d < 16 → d ≡ b % 16 + 9 * (b / 64) → hexOf b ≡ digitOf d → hexOf b ≡ some (b % 16 + 9 * (b / 64))
-    is d h q e = digit-is b b d refl e h ∙ ap some q
 
 pub pair-is :
     (s : List ℕ) (at r h l : ℕ) → at + 3 ≤ length s → getD s at 0 ≡ byte "\\" → hexOf (getD s (at + 1) 0) ≡ some h

@@ -2,13 +2,12 @@
 // one stands for. A string is given by the place where its opening quote ends. Places count from the text's start.
 
 ghost use mathlib.Core.Path.{_≡_};
-ghost use mathlib.Core.Bool.{true};
-ghost use Prim.Native.Nat.{_+_, _*_, _/_, _%_, _≤_, _<_};
+ghost use Prim.Native.Nat.{_≤_, _<_};
 ghost use lib.ListN.{length, drop};
 ghost use lib.Seq.{slice};
 ghost use Rattle.wat.specs.Bytes.{byte, between, has};
-ghost use Rattle.wat.specs.Numbers.{digit};
 ghost use Rattle.wat.specs.Settings.{lenient};
+ghost use Rattle.lex_classes.specs.Table.{Classes};
 ghost use Rattle.lex_strings.specs.Raw.{Raw, Raws, Pairs};
 ghost use Rattle.lex_strings.specs.Parsing.{string, Parsed, Closes, valueOf, Copied};
 use lex_escapes::Read;
@@ -22,18 +21,19 @@ pub enum StringEnd {
 }
 
 // The string whose opening quote ends at `at`.
-pub fn parse_str(s: &[u8], at: usize, settings: Settings) -> StringEnd
+pub fn parse_str(s: &[u8], at: usize, settings: Settings, t: &[u8; 256]) -> StringEnd
     requires { ⌜ at ≤ length (now s) ⌝ }
+    requires { ⌜ Classes (now t) ⌝ }
     ensures { λ r. ⌜ Parsed settings (now (s .entry)) at r ⌝ }
 {
     let mut i = at;
     loop {
-        i = raw_end(s, i);
-        if pair(s, i) < 256 {
+        i = raw_end(s, i, t);
+        if pair(s, i, t) < 256 {
             i += 3;
             continue;
         }
-        match lex_escapes::element(s, i, settings) {
+        match lex_escapes::element(s, i, settings, t) {
             Read::Byte { value: _, len } => {
                 i += len;
             }
@@ -71,21 +71,22 @@ pub fn has_escape(s: &[u8], from: usize, to: usize) -> bool
 }
 
 // How many bytes a whole string stands for.
-pub fn decoded_len(s: &[u8], at: usize) -> usize
+pub fn decoded_len(s: &[u8], at: usize, t: &[u8; 256]) -> usize
     requires { ⌜ (at ≤ length (now s)) × Closes (string lenient (drop at (now s))) ⌝ }
+    requires { ⌜ Classes (now t) ⌝ }
     ensures { λ r. ⌜ r ≡ length (valueOf (string lenient (drop at (now (s .entry))))) ⌝ }
 {
     let mut n: usize = 0;
     let mut i = at;
     loop {
-        let j = raw_end(s, i);
+        let j = raw_end(s, i, t);
         n += j - i;
-        if pair(s, j) < 256 {
+        if pair(s, j, t) < 256 {
             n += 1;
             i = j + 3;
             continue;
         }
-        match lex_escapes::element(s, j, Settings::LENIENT) {
+        match lex_escapes::element(s, j, Settings::LENIENT, t) {
             Read::Byte { value: _, len } => {
                 n += 1;
                 i = j + len;
@@ -105,26 +106,27 @@ pub fn decoded_len(s: &[u8], at: usize) -> usize
 }
 
 // Writes the bytes that a whole string stands for to the front of a buffer that has the room; returns how many.
-pub fn decode_into(s: &[u8], at: usize, dst: &mut [u8]) -> usize
+pub fn decode_into(s: &[u8], at: usize, dst: &mut [u8], t: &[u8; 256]) -> usize
     requires { ⌜ (at ≤ length (now s)) × Closes (string lenient (drop at (now s))) ⌝ }
     requires { ⌜ length (valueOf (string lenient (drop at (now s)))) ≤ length (now dst) ⌝ }
+    requires { ⌜ Classes (now t) ⌝ }
     ensures { λ r. ⌜ Copied (now (dst .entry)) (now (dst .exit))
         (valueOf (string lenient (drop at (now (s .entry))))) r ⌝ }
 {
     let mut to: usize = 0;
     let mut i = at;
     loop {
-        let j = raw_end(s, i);
+        let j = raw_end(s, i, t);
         buffers::copy(dst, to, s, i, j - i);
         to += j - i;
-        let b = pair(s, j);
+        let b = pair(s, j, t);
         if b < 256 {
             dst[to] = b as u8;
             to += 1;
             i = j + 3;
             continue;
         }
-        match lex_escapes::element(s, j, Settings::LENIENT) {
+        match lex_escapes::element(s, j, Settings::LENIENT, t) {
             Read::Byte { value, len } => {
                 dst[to] = value;
                 to += 1;
@@ -147,23 +149,14 @@ pub fn decode_into(s: &[u8], at: usize, dst: &mut [u8]) -> usize
 // The fast paths from here on leave to `element` what they do not decide.
 
 // The end of some raw characters from `at` on.
-fn raw_end(s: &[u8], at: usize) -> usize
+fn raw_end(s: &[u8], at: usize, t: &[u8; 256]) -> usize
     requires { ⌜ at ≤ length (now s) ⌝ }
+    requires { ⌜ Classes (now t) ⌝ }
     ensures { λ r. ⌜ Raws (now (s .entry)) at r ⌝ }
 {
     let mut i = at;
     while i < s.len() {
-        let b = s[i];
-        if b < 0x20 {
-            return i;
-        }
-        if b == b'"' {
-            return i;
-        }
-        if b == b'\\' {
-            return i;
-        }
-        if b < 0x7F {
+        if lex_classes::is_raw(t, s[i]) {
             i += 1;
         } else {
             let n = wide_raw(s, i);
@@ -218,8 +211,9 @@ fn continues(b: u8) -> bool
 
 // The byte of the `\hh` at a place, or 256 where none stands. In data any digit follows any other: so both are tested
 // at once, and the value is had by arithmetic, with no branch to be mispredicted.
-fn pair(s: &[u8], at: usize) -> u32
+fn pair(s: &[u8], at: usize, t: &[u8; 256]) -> u32
     requires { ⌜ at ≤ length (now s) ⌝ }
+    requires { ⌜ Classes (now t) ⌝ }
     ensures { λ r. ⌜ Pairs (drop at (now (s .entry))) r ⌝ }
 {
     if s.len() - at < 3 {
@@ -230,21 +224,8 @@ fn pair(s: &[u8], at: usize) -> u32
     }
     let h = s[at + 1];
     let l = s[at + 2];
-    if is_hex(h) & is_hex(l) {
-        return hex_value(h) * 16 + hex_value(l);
+    if lex_classes::is_digit(t, true, h) & lex_classes::is_digit(t, true, l) {
+        return lex_classes::hex_value(h) * 16 + lex_classes::hex_value(l);
     }
     256
-}
-
-fn is_hex(b: u8) -> bool
-    ensures { λ r. ⌜ r ≡ digit true b ⌝ }
-{
-    ((b'0' <= b) & (b <= b'9')) | (((b'A' <= b) & (b <= b'F')) | ((b'a' <= b) & (b <= b'f')))
-}
-
-// The value of a digit: its low four bits, and 9 for a letter.
-fn hex_value(b: u8) -> u32
-    ensures { λ r. ⌜ r ≡ b % 16 + 9 * (b / 64) ⌝ }
-{
-    (b as u32) % 16 + 9 * ((b as u32) / 64)
 }

@@ -124,11 +124,11 @@ fn parse_reserved(s: &[u8], at: usize, settings: Settings, t: &[u8; 256]) -> Ste
     let i = lex_classes::idchars_end(s, at, t);
     if !is_at(s, i, b'"') {
         return Step {
-            kind: word_kinds::word_kind(s, at, i),
+            kind: word_kinds::word_kind(s, at, i, t),
             end: i,
         };
     }
-    match lex_strings::parse_str(s, i + 1, settings) {
+    match lex_strings::parse_str(s, i + 1, settings, t) {
         StringEnd::Failed(_) => nothing(at),
         StringEnd::Closed(j) => match parse_run(s, j, settings, t) {
             RunEnd::Fails(_) => nothing(at),
@@ -163,7 +163,7 @@ pub fn parse_run(s: &[u8], at: usize, settings: Settings, t: &[u8; 256]) -> RunE
         if !is_at(s, k, b'"') {
             return RunEnd::Stops(k);
         }
-        match lex_strings::parse_str(s, k + 1, settings) {
+        match lex_strings::parse_str(s, k + 1, settings, t) {
             StringEnd::Closed(end) => {
                 i = end;
             }

@@ -7,6 +7,7 @@ ghost use Rattle.wat.specs.declared.Number.the-variants.{Neither};
 ghost use Rattle.wat.specs.Cases.{kindNumber};
 ghost use Rattle.wat.specs.NumberModel.{classify};
 ghost use Rattle.wat.specs.LexModel.{wordKind};
+ghost use Rattle.lex_classes.specs.Table.{Classes};
 ghost use Rattle.wat_laws.proofs.RunKinds.{quotedBy};
 use wat::FloatKind;
 use wat::IntegerKind;
@@ -14,17 +15,19 @@ use wat::Number;
 use wat::TokenKind;
 
 // The number of the kind of the idchars from `at` to `end`.
-pub fn word_kind(s: &[u8], at: usize, end: usize) -> u16
+pub fn word_kind(s: &[u8], at: usize, end: usize, t: &[u8; 256]) -> u16
     requires { ⌜ (at < end) × (end ≤ length (now s)) ⌝ }
+    requires { ⌜ Classes (now t) ⌝ }
     ensures { λ r. ⌜ r ≡ kindNumber
         (wordKind (classify (slice at end (now (s .entry)))) (getD (now (s .entry)) at 0)) ⌝ }
 {
-    named_kind(lex_numbers::classify_number(s, at, end), s[at])
+    named_kind(lex_numbers::classify_number(s, at, end, t), s[at], t)
 }
 
 // The number of the kind of a word, by the number that it is and its first byte.
 // https://webassembly.github.io/spec/core/text/values.html#integers
-fn named_kind(n: Number, b: u8) -> u16
+fn named_kind(n: Number, b: u8, t: &[u8; 256]) -> u16
+    requires { ⌜ Classes (now t) ⌝ }
     ensures { λ r. ⌜ r ≡ kindNumber (wordKind n b) ⌝ }
 {
     match n {
@@ -53,14 +56,15 @@ fn named_kind(n: Number, b: u8) -> u16
         Number::Normal { hex, underscores } => {
             codes::kind_number(TokenKind::Float(FloatKind::Normal { underscores, hex }))
         }
-        Number::Neither => plain_kind(b),
+        Number::Neither => plain_kind(b, t),
     }
 }
 
 // The number of the kind of a word that is no number, by its first byte.
 // https://webassembly.github.io/spec/core/text/values.html#text-id
 // https://webassembly.github.io/spec/core/text/lexical.html#text-keyword
-fn plain_kind(b: u8) -> u16
+fn plain_kind(b: u8, t: &[u8; 256]) -> u16
+    requires { ⌜ Classes (now t) ⌝ }
     ensures { λ r. ⌜ r ≡ kindNumber (wordKind Neither b) ⌝ }
 {
     if b == b'$' {
@@ -69,7 +73,7 @@ fn plain_kind(b: u8) -> u16
     if b == b'@' {
         return TokenKind::ANNOTATION;
     }
-    if lex_classes::is_letter(b) {
+    if lex_classes::is_letter(t, b) {
         return TokenKind::KEYWORD;
     }
     TokenKind::RESERVED

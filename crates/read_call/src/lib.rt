@@ -21,12 +21,15 @@ pub fn read(text: &[u8], reader: u64, token: Token, buffer: &mut [u8]) -> Readin
         6 => read_float::part(text, token, FloatPart::Fraction, buffer),
         7 => read_float::part(text, token, FloatPart::Exponent, buffer),
         8 => read_float::part(text, token, FloatPart::Payload, buffer),
-        _ => match read_token::present(text, token) {
-            TokenCheck::There => Reading::Refused {
-                refusal: Refusal::NotThatKind,
-                place: NO_PLACE,
-            },
-            TokenCheck::Refused { refusal, place } => Reading::Refused { refusal, place },
-        },
+        _ => {
+            let t = lex_classes::table();
+            match read_token::present(text, token, &t) {
+                TokenCheck::There => Reading::Refused {
+                    refusal: Refusal::NotThatKind,
+                    place: NO_PLACE,
+                },
+                TokenCheck::Refused { refusal, place } => Reading::Refused { refusal, place },
+            }
+        }
     }
 }

@@ -16,7 +16,8 @@ use wat_values::Reading;
 pub fn part(text: &[u8], token: Token, which: FloatPart, buffer: &mut [u8]) -> Reading
     ensures { λ r. ⌜ Read (float which) (now (text .entry)) token (now (buffer .entry)) r (now (buffer .exit)) ⌝ }
 {
-    match read_token::number_kind(text, token) {
+    let t = lex_classes::table();
+    match read_token::number_kind(text, token, &t) {
         NumberKind::Refused { refusal, place } => Reading::Refused { refusal, place },
         NumberKind::Integer(_) => Reading::Refused {
             refusal: Refusal::NotThatKind,
@@ -25,7 +26,7 @@ pub fn part(text: &[u8], token: Token, which: FloatPart, buffer: &mut [u8]) -> R
         NumberKind::Float(kind) => {
             let at = token.offset;
             let end = at + token.len as usize;
-            read_parts::float(text, at, end, kind, which, buffer)
+            read_parts::float(text, at, end, kind, which, buffer, &t)
         }
     }
 }
@@ -62,7 +63,8 @@ pub fn payload(text: &[u8], token: Token, buffer: &mut [u8]) -> Reading
 pub fn float_sign(text: &[u8], token: Token) -> FloatSign
     ensures { λ r. ⌜ ReadsNegative (now (text .entry)) token r ⌝ }
 {
-    match read_token::number_kind(text, token) {
+    let t = lex_classes::table();
+    match read_token::number_kind(text, token, &t) {
         NumberKind::Refused { refusal, place } => FloatSign::Refused { refusal, place },
         NumberKind::Integer(_) => FloatSign::Refused {
             refusal: Refusal::NotThatKind,

@@ -13,7 +13,8 @@ use wat_values::Reading;
 pub fn integer(text: &[u8], token: Token, buffer: &mut [u8]) -> Reading
     ensures { λ r. ⌜ Read Reader.digits (now (text .entry)) token (now (buffer .entry)) r (now (buffer .exit)) ⌝ }
 {
-    match read_token::number_kind(text, token) {
+    let t = lex_classes::table();
+    match read_token::number_kind(text, token, &t) {
         NumberKind::Refused { refusal, place } => Reading::Refused { refusal, place },
         NumberKind::Float(_) => Reading::Refused {
             refusal: Refusal::NotThatKind,
@@ -23,7 +24,7 @@ pub fn integer(text: &[u8], token: Token, buffer: &mut [u8]) -> Reading
             let at = token.offset;
             let end = at + token.len as usize;
             let hex = kind.hex;
-            read_parts::whole(text, at, end, hex, kind.underscores, buffer)
+            read_parts::whole(text, at, end, hex, kind.underscores, buffer, &t)
         }
     }
 }
@@ -31,7 +32,8 @@ pub fn integer(text: &[u8], token: Token, buffer: &mut [u8]) -> Reading
 pub fn integer_sign(text: &[u8], token: Token) -> IntegerSign
     ensures { λ r. ⌜ ReadsSign (now (text .entry)) token r ⌝ }
 {
-    match read_token::number_kind(text, token) {
+    let t = lex_classes::table();
+    match read_token::number_kind(text, token, &t) {
         NumberKind::Refused { refusal, place } => IntegerSign::Refused { refusal, place },
         NumberKind::Float(_) => IntegerSign::Refused {
             refusal: Refusal::NotThatKind,

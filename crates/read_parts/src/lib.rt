@@ -12,6 +12,7 @@ ghost use Rattle.wat.specs.Numbers.{IsFloat};
 ghost use Rattle.wat.specs.Tokens.{Tok};
 ghost use Rattle.wat_values.specs.declared.FloatPart.the-variants.{Fraction, Exponent};
 ghost use Rattle.wat_values.specs.Values.{Reader};
+ghost use Rattle.lex_classes.specs.Table.{Classes};
 ghost use Rattle.lex_numbers.specs.Places.{Skipped};
 ghost use Rattle.read_parts.specs.Handing.{At, Payload, Left, Leaves, Hands, HandsWhole, HandsPayload};
 use lex_numbers::Skip;
@@ -28,8 +29,10 @@ pub fn float(
     kind: FloatKind,
     part: FloatPart,
     buffer: &mut [u8],
+    t: &[u8; 256],
 ) -> Reading
     requires { ⌜ At (Tok (Float kind)) (now text) at end ⌝ }
+    requires { ⌜ Classes (now t) ⌝ }
     ensures { λ r. ⌜ Hands (Reader.float part) (Float kind) (now (text .entry)) at end (now (buffer .entry)) r
         (now (buffer .exit)) ⌝ }
 {
@@ -44,9 +47,9 @@ pub fn float(
             _ => Reading::Absent,
         },
         FloatKind::Normal { underscores, hex } => match part {
-            FloatPart::Integral => whole(text, at, end, hex, underscores, buffer),
-            FloatPart::Fraction => fraction(text, at, end, hex, underscores, buffer),
-            FloatPart::Exponent => exponent(text, at, end, hex, underscores, buffer),
+            FloatPart::Integral => whole(text, at, end, hex, underscores, buffer, t),
+            FloatPart::Fraction => fraction(text, at, end, hex, underscores, buffer, t),
+            FloatPart::Exponent => exponent(text, at, end, hex, underscores, buffer, t),
             FloatPart::Payload => Reading::Absent,
         },
     }
@@ -60,14 +63,16 @@ pub fn whole(
     hex: bool,
     underscores: bool,
     buffer: &mut [u8],
+    t: &[u8; 256],
 ) -> Reading
     requires { ⌜ At (IsFloat hex) (now text) at end ⌝ }
+    requires { ⌜ Classes (now t) ⌝ }
     ensures { λ r. ⌜ HandsWhole hex underscores (now (text .entry)) at end (now (buffer .entry)) r
         (now (buffer .exit)) ⌝ }
 {
     let sign = lex_numbers::sign_at(text, at, end);
     let from = past_prefix(text, at, end, hex);
-    let to = end_of(lex_numbers::skip_underscores(text, from, end, hex), end);
+    let to = end_of(lex_numbers::skip_underscores(text, from, end, hex, t), end);
     read_copies::hand(text, from, to, sign, hex | underscores, buffer)
 }
 
@@ -79,13 +84,15 @@ fn fraction(
     hex: bool,
     underscores: bool,
     buffer: &mut [u8],
+    t: &[u8; 256],
 ) -> Reading
     requires { ⌜ At (Tok (Float (Normal underscores hex))) (now text) at end ⌝ }
+    requires { ⌜ Classes (now t) ⌝ }
     ensures { λ r. ⌜ Hands (Reader.float Fraction) (Float (Normal underscores hex)) (now (text .entry)) at end
         (now (buffer .entry)) r (now (buffer .exit)) ⌝ }
 {
-    let dot = past_whole(text, at, end, hex);
-    let to = end_of(lex_numbers::fraction_at(text, dot, end, hex), end);
+    let dot = past_whole(text, at, end, hex, t);
+    let to = end_of(lex_numbers::fraction_at(text, dot, end, hex, t), end);
     if to - dot < 2 {
         return Reading::Absent;
     }
@@ -100,13 +107,15 @@ fn exponent(
     hex: bool,
     underscores: bool,
     buffer: &mut [u8],
+    t: &[u8; 256],
 ) -> Reading
     requires { ⌜ At (Tok (Float (Normal underscores hex))) (now text) at end ⌝ }
+    requires { ⌜ Classes (now t) ⌝ }
     ensures { λ r. ⌜ Hands (Reader.float Exponent) (Float (Normal underscores hex)) (now (text .entry)) at end
         (now (buffer .entry)) r (now (buffer .exit)) ⌝ }
 {
-    let dot = past_whole(text, at, end, hex);
-    let mark = end_of(lex_numbers::fraction_at(text, dot, end, hex), end);
+    let dot = past_whole(text, at, end, hex, t);
+    let mark = end_of(lex_numbers::fraction_at(text, dot, end, hex, t), end);
     if mark == end {
         return Reading::Absent;
     }
@@ -138,12 +147,13 @@ fn past_prefix(text: &[u8], at: usize, end: usize, hex: bool) -> usize
 }
 
 // Past the digits before the point.
-fn past_whole(text: &[u8], at: usize, end: usize, hex: bool) -> usize
+fn past_whole(text: &[u8], at: usize, end: usize, hex: bool, t: &[u8; 256]) -> usize
     requires { ⌜ At (IsFloat hex) (now text) at end ⌝ }
+    requires { ⌜ Classes (now t) ⌝ }
     ensures { λ r. ⌜ Leaves hex (now (text .entry)) at end (λ p f e. f ++ e) r ⌝ }
 {
     let from = past_prefix(text, at, end, hex);
-    end_of(lex_numbers::skip_underscores(text, from, end, hex), end)
+    end_of(lex_numbers::skip_underscores(text, from, end, hex, t), end)
 }
 
 // Where a part ends; `end` if there is no such part, and then the value is unused.

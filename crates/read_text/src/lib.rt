@@ -14,7 +14,8 @@ use wat_values::Reading;
 pub fn src(text: &[u8], token: Token) -> Reading
     ensures { λ r. ⌜ Read Reader.src (now (text .entry)) token [] r [] ⌝ }
 {
-    match read_token::present(text, token) {
+    let t = lex_classes::table();
+    match read_token::present(text, token, &t) {
         TokenCheck::Refused { refusal, place } => Reading::Refused { refusal, place },
         TokenCheck::There => Reading::Text {
             start: token.offset,
@@ -27,12 +28,13 @@ pub fn src(text: &[u8], token: Token) -> Reading
 pub fn string(text: &[u8], token: Token, buffer: &mut [u8]) -> Reading
     ensures { λ r. ⌜ Read Reader.string (now (text .entry)) token (now (buffer .entry)) r (now (buffer .exit)) ⌝ }
 {
-    match read_token::taken(text, token, TokenKind::String) {
+    let t = lex_classes::table();
+    match read_token::taken(text, token, TokenKind::String, &t) {
         TokenCheck::Refused { refusal, place } => Reading::Refused { refusal, place },
         TokenCheck::There => {
             let offset = token.offset;
             let len = token.len as usize;
-            read_names::quoted(text, offset, len, buffer)
+            read_names::quoted(text, offset, len, buffer, &t)
         }
     }
 }
@@ -41,12 +43,13 @@ pub fn string(text: &[u8], token: Token, buffer: &mut [u8]) -> Reading
 pub fn id(text: &[u8], token: Token, buffer: &mut [u8]) -> Reading
     ensures { λ r. ⌜ Read Reader.id (now (text .entry)) token (now (buffer .entry)) r (now (buffer .exit)) ⌝ }
 {
-    match read_token::taken(text, token, TokenKind::Id) {
+    let t = lex_classes::table();
+    match read_token::taken(text, token, TokenKind::Id, &t) {
         TokenCheck::Refused { refusal, place } => Reading::Refused { refusal, place },
         TokenCheck::There => {
             let offset = token.offset;
             let len = token.len as usize;
-            read_names::name(text, offset, len, LexError::EmptyId, buffer)
+            read_names::name(text, offset, len, LexError::EmptyId, buffer, &t)
         }
     }
 }
@@ -55,12 +58,13 @@ pub fn id(text: &[u8], token: Token, buffer: &mut [u8]) -> Reading
 pub fn annotation(text: &[u8], token: Token, buffer: &mut [u8]) -> Reading
     ensures { λ r. ⌜ Read Reader.annotation (now (text .entry)) token (now (buffer .entry)) r (now (buffer .exit)) ⌝ }
 {
-    match read_token::taken(text, token, TokenKind::Annotation) {
+    let t = lex_classes::table();
+    match read_token::taken(text, token, TokenKind::Annotation, &t) {
         TokenCheck::Refused { refusal, place } => Reading::Refused { refusal, place },
         TokenCheck::There => {
             let offset = token.offset;
             let len = token.len as usize;
-            read_names::name(text, offset, len, LexError::EmptyAnnotation, buffer)
+            read_names::name(text, offset, len, LexError::EmptyAnnotation, buffer, &t)
         }
     }
 }

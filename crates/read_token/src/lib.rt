@@ -1,6 +1,7 @@
 // Whether a token that a caller hands in is there, of a kind, and a number.
 
 ghost use Rattle.wat.specs.Calls.{Stands};
+ghost use Rattle.lex_classes.specs.Table.{Classes};
 ghost use Rattle.read_token.specs.Here.{Here, Taken, HereNumber};
 use lex_entry::Entry;
 use wat::FloatKind;
@@ -17,19 +18,21 @@ pub enum TokenCheck {
     Refused { refusal: Refusal, place: usize },
 }
 
-pub fn present(text: &[u8], token: Token) -> TokenCheck
+pub fn present(text: &[u8], token: Token, t: &[u8; 256]) -> TokenCheck
+    requires { ⌜ Classes (now t) ⌝ }
     ensures { λ r. ⌜ Here (now (text .entry)) token r ⌝ }
 {
     let offset = token.offset;
     match lex_entry::check(text, offset) {
         Entry::Rejected { refusal, place } => TokenCheck::Refused { refusal, place },
-        Entry::Stands => present_at(text, token),
+        Entry::Stands => present_at(text, token, t),
     }
 }
 
 // 30, at an offset that stands: lexing there, leniently, gives another kind or another length, or nothing.
-fn present_at(text: &[u8], token: Token) -> TokenCheck
+fn present_at(text: &[u8], token: Token, t: &[u8; 256]) -> TokenCheck
     requires { ⌜ Stands (now text) (token .offset) ⌝ }
+    requires { ⌜ Classes (now t) ⌝ }
     ensures { λ r. ⌜ Here (now (text .entry)) token r ⌝ }
 {
     let offset = token.offset;
@@ -39,8 +42,7 @@ fn present_at(text: &[u8], token: Token) -> TokenCheck
             place: NO_PLACE,
         };
     }
-    let t = lex_classes::table();
-    let step = lex_token::parse_kind(text, offset, Settings::LENIENT, &t);
+    let step = lex_token::parse_kind(text, offset, Settings::LENIENT, t);
     let kind = token.kind;
     if step.kind != codes::kind_number(kind) {
         return TokenCheck::Refused {
@@ -58,10 +60,11 @@ fn present_at(text: &[u8], token: Token) -> TokenCheck
 }
 
 // As `present`, and then 31: its kind is not the one wanted.
-pub fn taken(text: &[u8], token: Token, wanted: TokenKind) -> TokenCheck
+pub fn taken(text: &[u8], token: Token, wanted: TokenKind, t: &[u8; 256]) -> TokenCheck
+    requires { ⌜ Classes (now t) ⌝ }
     ensures { λ r. ⌜ Taken (now (text .entry)) token wanted r ⌝ }
 {
-    match present(text, token) {
+    match present(text, token, t) {
         TokenCheck::Refused { refusal, place } => TokenCheck::Refused { refusal, place },
         TokenCheck::There => {
             let kind = token.kind;
@@ -83,10 +86,11 @@ pub enum NumberKind {
     Float(FloatKind),
 }
 
-pub fn number_kind(text: &[u8], token: Token) -> NumberKind
+pub fn number_kind(text: &[u8], token: Token, t: &[u8; 256]) -> NumberKind
+    requires { ⌜ Classes (now t) ⌝ }
     ensures { λ r. ⌜ HereNumber (now (text .entry)) token r ⌝ }
 {
-    match present(text, token) {
+    match present(text, token, t) {
         TokenCheck::Refused { refusal, place } => NumberKind::Refused { refusal, place },
         TokenCheck::There => {
             let kind = token.kind;

@@ -56,7 +56,9 @@ returns-3 c =
     (read-quoted (a .s .now) (a .at) _ _ ch _ (c .if3 .taken), omega (arith, length-drop (a .at) (a .s .now), ch .fits))
 
 escape-requires : tie.Need-escape-requires
-escape-requires c κs = omega (arith, character (c .before .before) .fits)
+escape-requires c κs =
+    let k = c .before .before in
+    (omega (arith, character k .fits), start k .pre)
 
 returns-4 : tie.Need-returns-4
 returns-4 c =

@@ -1,13 +1,14 @@
 -- `lex_escapes::escape` meets its contract, by the cases of `escapeBy`. Assumes nothing.
-use Prim.Native.Nat.{ℕ, _+_}
+use Prim.Native.Nat.{ℕ, _+_, _≤_}
 use mathlib.Core.Path.{_≡_, refl}
 use mathlib.Core.Option.{none}
 use native.Mathlib.Omega.{arith}
 use borrow.Author.Needs.{needs}
-use lib.ListN.{drop}
+use lib.ListN.{length, drop}
 use Rattle.wat.specs.Strings.{escapes}
 use Rattle.wat.specs.StringModel.{letterOf}
 use Rattle.utf8_chars.specs.Decoding.{Character}
+use Rattle.lex_classes.specs.Table.{Classes}
 use Rattle.lex_escapes.proofs.CharLaws.{is-char, is-nothing, digit-is, digit-not, letter-is, letter-not}
 use Rattle.lex_escapes.proofs.ElementLaws.{an-element, a-refusal, says-same}
 use Rattle.lex_escapes.proofs.ElementLaws.{escape-end, escape-unicode, escape-letter, escape-digit, escape-no}
@@ -43,6 +44,10 @@ character c =
     let a = start (asked c) .args in
     is-char (a .s .now) (a .at + 1) (asked c .must-char .ensures) (c .before .value .given .1)
 
+-- what is called for the rest may look behind it, by the table that is lent
+onward : (c : tie.After-known-told) → let a = start (asked c) .args in (a .at + 2 ≤ length (a .s .now)) × Classes (a .t .now)
+onward c = let ch = character c in (omega (arith, ch .fits, ch .some), start (asked c) .pre .1)
+
 no-letter : (c : tie.After-to-hex) → letterOf escapes (value (told (lettered c))) ≡ none
 no-letter c = letter-not (lettered c .letter .result) (lettered c .letter .ensures) (c .before .if2 .left)
 
@@ -69,7 +74,7 @@ cast-if1 : tie.Need-cast-if1
 cast-if1 c = search needs
 
 open-brace-requires : tie.Need-open-brace-requires
-open-brace-requires c κs = let ch = character (c .before) in omega (arith, ch .fits, ch .some)
+open-brace-requires c κs = onward (c .before)
 
 returns-2 : tie.Need-returns-2
 returns-2 c =
@@ -95,7 +100,7 @@ to-hex-requires : tie.Need-to-hex-requires
 to-hex-requires c κs = search needs
 
 second-digit-requires : tie.Need-second-digit-requires
-second-digit-requires c κs = let ch = character (told (lettered (c .before))) in omega (arith, ch .fits, ch .some)
+second-digit-requires c κs = let o = onward (told (lettered (c .before))) in ((o .0, omega arith), o .1)
 
 returns-4 : tie.Need-returns-4
 returns-4 c =
@@ -110,8 +115,8 @@ returns-4 c =
     (omega arith) d in
     says-same (a .s .now) (a .at) (c .second-digit .result) e (c .second-digit .ensures)
 
-add-t9 : tie.Need-add-t9
-add-t9 c = omega (arith, character (told (lettered (c .before))) .few)
+add-t10 : tie.Need-add-t10
+add-t10 c = omega (arith, character (told (lettered (c .before))) .few)
 
 returns-5 : tie.Need-returns-5
 returns-5 c =
@@ -141,5 +146,5 @@ escape-spec =
     to-hex-requires
     second-digit-requires
     returns-4
-    add-t9
+    add-t10
     returns-5)

@@ -54,11 +54,11 @@ returns c =
 to-hex-requires : tie.Need-to-hex-requires
 to-hex-requires c κs = search needs
 
-mul-t12 : tie.Need-mul-t12
-mul-t12 c = search needs
+mul-t13 : tie.Need-mul-t13
+mul-t13 c = search needs
 
-add-t13 : tie.Need-add-t13
-add-t13 c = search needs
+add-t14 : tie.Need-add-t14
+add-t14 c = search needs
 
 returns-2 : tie.Need-returns-2
 returns-2 c =
@@ -70,8 +70,8 @@ returns-2 c =
     let e = second-yes (a .s .now) (a .at + 2) v _ ch (a .high) (h .to-hex .result) d in
     an-element (a .s .now) (a .at) e (omega arith) (omega (arith, ch .fits, ch .some)) (omega arith)
 
-add-t8 : tie.Need-add-t8
-add-t8 c = omega (arith, character (told (c .before)) .few)
+add-t9 : tie.Need-add-t9
+add-t9 c = omega (arith, character (told (c .before)) .few)
 
 returns-3 : tie.Need-returns-3
 returns-3 c =
@@ -92,8 +92,8 @@ second-digit-spec =
     enum-told
     returns
     to-hex-requires
-    mul-t12
-    add-t13
+    mul-t13
+    add-t14
     returns-2
-    add-t8
+    add-t9
     returns-3)

@@ -8,17 +8,17 @@ use Rattle.lex_numbers.proofs.skip_underscores.Statement.{statement}
 use Rattle.lex_numbers.proofs.skip_underscores.Tie as tie
 
 abbrev Inv-loop : tie.InvT-loop
-Inv-loop text at end hex i₀ must₀ seen₀ i must seen = Ran hex text at end i must seen
+Inv-loop text at end hex t i₀ must₀ seen₀ i must seen = Ran hex text at end i must seen
 
 abbrev μ-loop : tie.MeasureT-loop
-μ-loop text at end hex i₀ must₀ seen₀ i must seen = end - i
+μ-loop text at end hex t i₀ must₀ seen₀ i must seen = end - i
 
 -- the places: where a round begins, and where its byte is known to be a digit or not
 abbrev round : tie.After-is-digit Inv-loop μ-loop → tie.At-loop Inv-loop μ-loop
 round c = c .before .before .before
 
 loop-holds : tie.Need-loop-holds Inv-loop μ-loop
-loop-holds c = ran-none _ _ _ _ (c .before .pre .0)
+loop-holds c = ran-none _ _ _ _ (c .before .pre .0 .0)
 
 shared-slice-read-c : tie.Need-shared-slice-read-c Inv-loop μ-loop
 shared-slice-read-c c = omega arith

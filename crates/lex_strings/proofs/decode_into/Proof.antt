@@ -17,14 +17,17 @@ use Rattle.lex_strings.proofs.decode_into.Statement.{statement}
 use Rattle.lex_strings.proofs.decode_into.Tie as tie
 
 abbrev Inv-loop : tie.InvT-loop
-Inv-loop s at dst₀ to₀ i₀ dst to i = Written s at i to dst₀ dst
+Inv-loop s at dst₀ t to₀ i₀ dst to i = Written s at i to dst₀ dst
 
 abbrev μ-loop : tie.MeasureT-loop
-μ-loop s at dst₀ to₀ i₀ dst to i = length s - i
+μ-loop s at dst₀ t to₀ i₀ dst to i = length s - i
 
--- the places: the function's start; where a round's raw characters end; and where they are copied
+-- the places: the function's start, from a round's beginning and from where its raw characters end; and where they are copied
+abbrev begun : tie.At-loop Inv-loop μ-loop → tie.Start Inv-loop μ-loop
+begun c = c .before .before .before
+
 abbrev start : tie.After-raw-end Inv-loop μ-loop → tie.Start Inv-loop μ-loop
-start c = c .before .before .before .before
+start c = begun (c .before)
 
 abbrev raw : tie.After-slice-known2 Inv-loop μ-loop → tie.After-raw-end Inv-loop μ-loop
 raw c = c .before .before .before .before
@@ -76,7 +79,7 @@ written c =
 
 -- an element has room, and is passed once it is written
 room : (c : tie.After-slice-known2 Inv-loop μ-loop) {k : ℕ} {v : List ℕ} → Next c k v → to c + length v ≤ length (buffer c)
-room c x = let p = start (raw c) .pre in room-on (written c) (element-onward lenient _ x) (p .0 .1) (p .1)
+room c x = let p = start (raw c) .pre in room-on (written c) (element-onward lenient _ x) (p .0 .1) (p .1 .0)
 
 past :
     (c : tie.After-slice-known2 Inv-loop μ-loop) {k m : ℕ} {v e : List ℕ} → Next c k v → m ≡ length v
@@ -96,7 +99,7 @@ loop-holds : tie.Need-loop-holds Inv-loop μ-loop
 loop-holds c = written-none _ _ _ (c .before .before .pre .0 .0)
 
 raw-end-requires : tie.Need-raw-end-requires Inv-loop μ-loop
-raw-end-requires c κs = c .loop .inv .passed .within
+raw-end-requires c κs = (c .loop .inv .passed .within, begun c .pre .1 .1)
 
 sub-copy : tie.Need-sub-copy Inv-loop μ-loop
 sub-copy c = c .before .raw-end .ensures .order
@@ -105,7 +108,7 @@ copy-requires : tie.Need-copy-requires Inv-loop μ-loop
 copy-requires c κs =
     let p = start (c .before) .pre in
     let r = c .before .raw-end .ensures in
-    let room = room-on (c .before .before .loop .inv) (raws-onward lenient _ r) (p .0 .1) (p .1) in
+    let room = room-on (c .before .before .loop .inv) (raws-onward lenient _ r) (p .0 .1) (p .1 .0) in
     (omega (arith, room, raws-long r), omega (arith, r .order, r .fits))
 
 sub-to : tie.Need-sub-to Inv-loop μ-loop
@@ -115,7 +118,7 @@ add-to : tie.Need-add-to Inv-loop μ-loop
 add-to c = omega (arith, written c .room)
 
 pair-requires : tie.Need-pair-requires Inv-loop μ-loop
-pair-requires c κs = raw c .raw-end .ensures .fits
+pair-requires c κs = (raw c .raw-end .ensures .fits, start (raw c) .pre .1 .1)
 
 -- two digits
 

@@ -16,14 +16,17 @@ use Rattle.lex_strings.proofs.decoded_len.Statement.{statement}
 use Rattle.lex_strings.proofs.decoded_len.Tie as tie
 
 abbrev Inv-loop : tie.InvT-loop
-Inv-loop s at n₀ i₀ n i = Measured s at i n
+Inv-loop s at t n₀ i₀ n i = Measured s at i n
 
 abbrev μ-loop : tie.MeasureT-loop
-μ-loop s at n₀ i₀ n i = length s - i
+μ-loop s at t n₀ i₀ n i = length s - i
 
--- the places: the function's start, and where a round's raw characters end
+-- the places: the function's start, from a round's beginning and from where its raw characters end
+abbrev begun : tie.At-loop Inv-loop μ-loop → tie.Start Inv-loop μ-loop
+begun c = c .before .before
+
 abbrev start : tie.After-raw-end Inv-loop μ-loop → tie.Start Inv-loop μ-loop
-start c = c .before .before .before
+start c = begun (c .before)
 
 -- what stands there: two digits, or what `element` reads
 abbrev digits : tie.Then1 Inv-loop μ-loop → tie.After-raw-end Inv-loop μ-loop
@@ -65,10 +68,10 @@ past : (c : tie.After-raw-end Inv-loop μ-loop) {k m : ℕ} {v : List ℕ} → N
 past c x q = measured-on (measured c) (element-onward lenient _ x) q
 
 loop-holds : tie.Need-loop-holds Inv-loop μ-loop
-loop-holds c = measured-none _ _ (c .before .pre .0)
+loop-holds c = measured-none _ _ (c .before .pre .0 .0)
 
 raw-end-requires : tie.Need-raw-end-requires Inv-loop μ-loop
-raw-end-requires c κs = c .loop .inv .passed .within
+raw-end-requires c κs = (c .loop .inv .passed .within, begun c .pre .1)
 
 sub-n : tie.Need-sub-n Inv-loop μ-loop
 sub-n c = c .raw-end .ensures .order
@@ -77,7 +80,7 @@ add-n : tie.Need-add-n Inv-loop μ-loop
 add-n c = omega (arith, measured-below (measured c))
 
 pair-requires : tie.Need-pair-requires Inv-loop μ-loop
-pair-requires c κs = c .raw-end .ensures .fits
+pair-requires c κs = (c .raw-end .ensures .fits, start c .pre .1)
 
 -- two digits
 
@@ -171,7 +174,7 @@ returns-2 : tie.Need-returns-2 Inv-loop μ-loop
 returns-2 c =
     let r = raw (refused c) in
     let x = says-refused _ _ (refused c .element .ensures) (c .enum-told2 .given .1) in
-    absurd (never-refused (measured r .passed) x (start r .pre .1))
+    absurd (never-refused (measured r .passed) x (start r .pre .0 .1))
 
 pub decoded-len-spec : {M : Type 1} → statement M
 decoded-len-spec =

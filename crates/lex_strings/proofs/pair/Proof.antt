@@ -4,7 +4,8 @@ use mathlib.Core.Path.{sym, _∙_}
 use native.Mathlib.Omega.{arith}
 use borrow.Author.Needs.{needs}
 use lib.ListN.{getD}
-use Rattle.lex_strings.proofs.RawLaws.{both, hex-is, pair-is}
+use Rattle.lex_classes.proofs.AskLaws.{hex-is}
+use Rattle.lex_strings.proofs.RawLaws.{both, pair-is}
 use Rattle.lex_strings.proofs.pair.Statement.{statement}
 use Rattle.lex_strings.proofs.pair.Tie as tie
 
@@ -49,11 +50,11 @@ add-l c = search needs
 shared-slice-read-l : tie.Need-shared-slice-read-l
 shared-slice-read-l c = search needs
 
-is-hex-requires : tie.Need-is-hex-requires
-is-hex-requires c κs = search needs
+is-digit-requires : tie.Need-is-digit-requires
+is-digit-requires c κs = search needs
 
-is-hex-requires-2 : tie.Need-is-hex-requires-2
-is-hex-requires-2 c κs = search needs
+is-digit-requires-2 : tie.Need-is-digit-requires-2
+is-digit-requires-2 c κs = search needs
 
 hex-value-requires : tie.Need-hex-value-requires
 hex-value-requires c κs = search needs
@@ -75,9 +76,9 @@ returns-3 c =
     let r = read d in
     let a = start r .args in
     let w = both _ _ (d .if3 .taken) in
-    let h = hex-is (getD (a .s .now) (a .at + 1) 0) (sym (d .before .before .is-hex .ensures) ∙ w .0) in
-    let l = hex-is (getD (a .s .now) (a .at + 2) 0) (sym (d .before .is-hex2 .ensures) ∙ w .1) in
-    λ k. pair-is (a .s .now) (a .at) _ _ _ (omega arith) (r .before .before .if2 .left) h l
+    let h = hex-is (getD (a .s .now) (a .at + 1) 0) (sym (d .before .before .is-digit .ensures) ∙ w .0) in
+    let l = hex-is (getD (a .s .now) (a .at + 2) 0) (sym (d .before .is-digit2 .ensures) ∙ w .1) in
+    λ k. pair-is (a .s .now) (a .at) _ _ _ (omega arith) (r .before .before .if2 .left) (h .0) (l .0)
     (omega (arith, c .before .hex-value .ensures, c .hex-value2 .ensures))
 
 returns-4 : tie.Need-returns-4
@@ -95,8 +96,8 @@ pair-spec =
     shared-slice-read-h
     add-l
     shared-slice-read-l
-    is-hex-requires
-    is-hex-requires-2
+    is-digit-requires
+    is-digit-requires-2
     hex-value-requires
     mul-result
     hex-value-requires-2

@@ -13,14 +13,17 @@ use Rattle.lex_strings.proofs.parse_str.Statement.{statement}
 use Rattle.lex_strings.proofs.parse_str.Tie as tie
 
 abbrev Inv-loop : tie.InvT-loop
-Inv-loop s at settings i₀ i = Reached settings s at i
+Inv-loop s at settings t i₀ i = Reached settings s at i
 
 abbrev μ-loop : tie.MeasureT-loop
-μ-loop s at settings i₀ i = length s - i
+μ-loop s at settings t i₀ i = length s - i
 
--- the places: the function's start, and where a round's raw characters end
+-- the places: the function's start, from a round's beginning and from where its raw characters end
+abbrev begun : tie.At-loop Inv-loop μ-loop → tie.Start Inv-loop μ-loop
+begun c = c .before .before
+
 abbrev start : tie.After-raw-end Inv-loop μ-loop → tie.Start Inv-loop μ-loop
-start c = c .before .before .before
+start c = begun (c .before)
 
 -- what stands there: two digits, or what `element` reads
 abbrev digits : tie.Then1 Inv-loop μ-loop → tie.After-raw-end Inv-loop μ-loop
@@ -61,10 +64,10 @@ loop-holds : tie.Need-loop-holds Inv-loop μ-loop
 loop-holds c = reached-none _ _ _ (omega arith)
 
 raw-end-requires : tie.Need-raw-end-requires Inv-loop μ-loop
-raw-end-requires c κs = c .loop .inv .passed .within
+raw-end-requires c κs = (c .loop .inv .passed .within, begun c .pre .1)
 
 pair-requires : tie.Need-pair-requires Inv-loop μ-loop
-pair-requires c κs = c .raw-end .ensures .fits
+pair-requires c κs = (c .raw-end .ensures .fits, start c .pre .1)
 
 -- two digits
 
@@ -131,8 +134,8 @@ loop-again-3 c = past-char c
 enum-told : tie.Need-enum-told Inv-loop μ-loop
 enum-told c = search needs
 
-add-t12 : tie.Need-add-t12 Inv-loop μ-loop
-add-t12 c =
+add-t13 : tie.Need-add-t13 Inv-loop μ-loop
+add-t13 c =
     let r = raw (quote c) in
     let q = says-quote _ _ (quote c .element .ensures) (c .enum-told .given .1) in
     omega (arith, q .1, length-drop (r .raw-end .result) (start r .args .s .now))
@@ -161,11 +164,11 @@ shifted c =
     let x = refusal c in
     (omega (arith, x .fits, x .order, r .raw-end .ensures .fits, l), omega (arith, x .fits, r .raw-end .ensures .fits, l))
 
-add-t13 : tie.Need-add-t13 Inv-loop μ-loop
-add-t13 c = omega (arith, shifted (c .before) .0)
-
 add-t14 : tie.Need-add-t14 Inv-loop μ-loop
-add-t14 c = omega (arith, shifted (c .before .before) .1)
+add-t14 c = omega (arith, shifted (c .before) .0)
+
+add-t15 : tie.Need-add-t15 Inv-loop μ-loop
+add-t15 c = omega (arith, shifted (c .before .before) .1)
 
 returns-2 : tie.Need-returns-2 Inv-loop μ-loop
 returns-2 c =
@@ -194,9 +197,9 @@ parse-str-spec =
     loop-less-3
     loop-again-3
     enum-told
-    add-t12
+    add-t13
     returns
     enum-known-fault
-    add-t13
     add-t14
+    add-t15
     returns-2)

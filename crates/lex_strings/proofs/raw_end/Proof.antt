@@ -1,5 +1,6 @@
 -- `lex_strings::raw_end` meets its contract: each character passed stands for itself. Assumes nothing.
 use Prim.Native.Nat.{_-_}
+use mathlib.Core.Path.{sym, _∙_}
 use native.Mathlib.Omega.{arith}
 use lib.ListN.{length}
 use Rattle.lex_strings.specs.Raw.{Raws}
@@ -8,35 +9,29 @@ use Rattle.lex_strings.proofs.raw_end.Statement.{statement}
 use Rattle.lex_strings.proofs.raw_end.Tie as tie
 
 abbrev Inv-loop : tie.InvT-loop
-Inv-loop s at i₀ i = Raws s at i
+Inv-loop s at t i₀ i = Raws s at i
 
 abbrev μ-loop : tie.MeasureT-loop
-μ-loop s at i₀ i = length s - i
+μ-loop s at t i₀ i = length s - i
 
--- the places: where a round begins, where its byte is read, and where `wide_raw` has answered
-abbrev round : tie.After-shared-slice-known2 Inv-loop μ-loop → tie.At-loop Inv-loop μ-loop
-round c = c .before .before
+-- the places: the function's start; where a round begins; and where `wide_raw` is asked in it
+abbrev start : tie.At-loop Inv-loop μ-loop → tie.Start Inv-loop μ-loop
+start c = c .before .before
 
-abbrev byte : tie.Else3 Inv-loop μ-loop → tie.After-shared-slice-known2 Inv-loop μ-loop
-byte c = c .before .before .before
+abbrev round : tie.After-is-raw Inv-loop μ-loop → tie.At-loop Inv-loop μ-loop
+round c = c .before .before .before
 
-abbrev other : tie.After-wide-raw Inv-loop μ-loop → tie.Else3 Inv-loop μ-loop
-other c = c .before .before
+abbrev other : tie.After-wide-raw Inv-loop μ-loop → tie.At-loop Inv-loop μ-loop
+other c = round (c .before .before)
 
 loop-holds : tie.Need-loop-holds Inv-loop μ-loop
-loop-holds c = raws-none _ _ (c .before .pre)
+loop-holds c = raws-none _ _ (c .before .pre .0)
 
-shared-slice-read-b : tie.Need-shared-slice-read-b Inv-loop μ-loop
-shared-slice-read-b c = omega arith
+shared-slice-read-is-raw : tie.Need-shared-slice-read-is-raw Inv-loop μ-loop
+shared-slice-read-is-raw c = omega arith
 
-returns : tie.Need-returns Inv-loop μ-loop
-returns c = round (c .before) .loop .inv
-
-returns-2 : tie.Need-returns-2 Inv-loop μ-loop
-returns-2 c = round (c .before .before) .loop .inv
-
-returns-3 : tie.Need-returns-3 Inv-loop μ-loop
-returns-3 c = round (c .before .before .before) .loop .inv
+is-raw-requires : tie.Need-is-raw-requires Inv-loop μ-loop
+is-raw-requires c κs = start (c .before .before) .pre .1
 
 add-i : tie.Need-add-i Inv-loop μ-loop
 add-i c = omega arith
@@ -46,15 +41,14 @@ loop-less c = omega arith
 
 loop-again : tie.Need-loop-again Inv-loop μ-loop
 loop-again c =
-    let o = c .before in
-    raws-more _ _ _ 1 (round (byte o) .loop .inv)
-    (raw-one _ _ (omega arith) (o .before .before .if1 .left) (c .if4 .taken) (o .before .if2 .left) (o .if3 .left)) (omega arith)
+    let k = c .before in
+    raws-more _ _ _ 1 (round k .loop .inv) (raw-one _ _ (omega arith) (sym (k .is-raw .ensures) ∙ c .if1 .taken)) (omega arith)
 
 wide-raw-requires : tie.Need-wide-raw-requires Inv-loop μ-loop
 wide-raw-requires c κs = omega arith
 
-returns-4 : tie.Need-returns-4 Inv-loop μ-loop
-returns-4 c = round (byte (other (c .before))) .loop .inv
+returns : tie.Need-returns Inv-loop μ-loop
+returns c = other (c .before) .loop .inv
 
 add-i-2 : tie.Need-add-i-2 Inv-loop μ-loop
 add-i-2 c = omega (arith, c .before .wide-raw .ensures .fits)
@@ -63,10 +57,10 @@ loop-less-2 : tie.Need-loop-less-2 Inv-loop μ-loop
 loop-less-2 c = omega (arith, c .before .wide-raw .ensures .fits)
 
 loop-again-2 : tie.Need-loop-again-2 Inv-loop μ-loop
-loop-again-2 c = raws-more _ _ _ _ (round (byte (other (c .before))) .loop .inv) (c .before .wide-raw .ensures) (omega arith)
+loop-again-2 c = raws-more _ _ _ _ (other (c .before) .loop .inv) (c .before .wide-raw .ensures) (omega arith)
 
-returns-5 : tie.Need-returns-5 Inv-loop μ-loop
-returns-5 c = c .before .loop .inv
+returns-2 : tie.Need-returns-2 Inv-loop μ-loop
+returns-2 c = c .before .loop .inv
 
 pub raw-end-spec : {M : Type 1} → statement M
 raw-end-spec =
@@ -75,16 +69,14 @@ raw-end-spec =
     Inv-loop
     μ-loop
     loop-holds
-    shared-slice-read-b
-    returns
-    returns-2
-    returns-3
+    shared-slice-read-is-raw
+    is-raw-requires
     add-i
     loop-less
     loop-again
     wide-raw-requires
-    returns-4
+    returns
     add-i-2
     loop-less-2
     loop-again-2
-    returns-5)
+    returns-2)

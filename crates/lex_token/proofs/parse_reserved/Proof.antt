@@ -92,7 +92,7 @@ is-at-requires : tie.Need-is-at-requires
 is-at-requires c κs = search needs
 
 word-kind-requires : tie.Need-word-kind-requires
-word-kind-requires c κs = (some c, word c .idchars-end .ensures .within)
+word-kind-requires c κs = ((some c, word c .idchars-end .ensures .within), start (word c) .pre .1 .1)
 
 returns : tie.Need-returns
 returns c =
@@ -104,7 +104,7 @@ add-parse-str : tie.Need-add-parse-str
 add-parse-str c = search needs
 
 parse-str-requires : tie.Need-parse-str-requires
-parse-str-requires c κs = follows c
+parse-str-requires c κs = (follows c, start (idchars c) .pre .1 .1)
 
 enum-told : tie.Need-enum-told
 enum-told c = search needs

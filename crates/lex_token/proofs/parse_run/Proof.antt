@@ -79,7 +79,7 @@ add-parse-str : tie.Need-add-parse-str Inv-loop μ-loop
 add-parse-str c = let f = follows c in omega arith
 
 parse-str-requires : tie.Need-parse-str-requires Inv-loop μ-loop
-parse-str-requires c κs = follows c
+parse-str-requires c κs = (follows c, start (idchars c) .pre .1 .1)
 
 enum-known-end : tie.Need-enum-known-end Inv-loop μ-loop
 enum-known-end c = search needs

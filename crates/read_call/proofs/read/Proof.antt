@@ -44,6 +44,9 @@ part-requires-3 c κs = search needs
 part-requires-4 : tie.Need-part-requires-4
 part-requires-4 c κs = search needs
 
+table-requires : tie.Need-table-requires
+table-requires c κs = search needs
+
 present-requires : tie.Need-present-requires
 present-requires c κs = search needs
 
@@ -105,10 +108,11 @@ returns-9 : tie.Need-returns-9
 returns-9 c = by-number 8 (omega arith) refl (c .before .before .part4 .ensures)
 
 returns-10 : tie.Need-returns-10
-returns-10 c = let p = present c in by-nobody (p .before .match .rest) (p .present .ensures) (c .enum-told .given .1)
+returns-10 c = let p = present c in by-nobody (p .before .before .before .match .rest) (p .present .ensures) (c .enum-told .given .1)
 
 returns-11 : tie.Need-returns-11
-returns-11 c = let p = refused c in by-nobody-missing (p .before .match .rest) (p .present .ensures) (c .before .refusal .given .1)
+returns-11 c =
+    let p = refused c in by-nobody-missing (p .before .before .before .match .rest) (p .present .ensures) (c .before .refusal .given .1)
 
 pub read-spec : {M : Type 1} → statement M
 read-spec =
@@ -123,6 +127,7 @@ read-spec =
     part-requires-2
     part-requires-3
     part-requires-4
+    table-requires
     present-requires
     enum-told
     enum-known-refusal

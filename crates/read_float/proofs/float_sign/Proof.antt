@@ -10,7 +10,7 @@ use Rattle.read_float.proofs.float_sign.Tie as tie
 
 -- the places: the function's start; and where the number is asked for, if it is refused, if it is an integer and if it is a float
 abbrev start : tie.After-number-kind → tie.Start
-start c = c .before .before
+start c = c .before .before .before .before
 
 abbrev refused : tie.After-known-told → tie.After-number-kind
 refused c = c .before .before .before
@@ -41,8 +41,11 @@ is-float : (c : tie.After-known-told2) → let a = start (float c) .args in
     There (a .text .now) (a .token) × (a .token .kind ≡ Float (c .before .kind .given .0 .0))
 is-float c = here (float c) (c .before .kind .given .1)
 
+table-requires : tie.Need-table-requires
+table-requires c κs = tt
+
 number-kind-requires : tie.Need-number-kind-requires
-number-kind-requires c κs = tt
+number-kind-requires c κs = c .before .table .ensures
 
 enum-known-refusal : tie.Need-enum-known-refusal
 enum-known-refusal c = c .match .keys1
@@ -87,6 +90,7 @@ pub float-sign-spec : {M : Type 1} → statement M
 float-sign-spec =
     tie.close
     (tie.spec
+    table-requires
     number-kind-requires
     enum-known-refusal
     enum-told

@@ -13,7 +13,7 @@ use Rattle.read_float.proofs.part.Tie as tie
 
 -- the places: the function's start; and where the number is asked for, if it is refused, if it is an integer and if it is a float
 abbrev start : tie.After-number-kind → tie.Start
-start c = c .before .before .before
+start c = c .before .before .before .before .before
 
 abbrev refused : tie.After-known-told → tie.After-number-kind
 refused c = c .before .before .before
@@ -25,8 +25,8 @@ abbrev float : tie.After-known-told2 → tie.After-number-kind
 float c = c .before .before .before
 
 -- where the part is asked for, and handed over
-abbrev asked : tie.After-float-arg → tie.After-known-told2
-asked c = c .before .before
+abbrev asked : tie.After-t2 → tie.After-known-told2
+asked c = c .before .before .before
 
 abbrev handed : tie.After-slice-known2 → tie.After-float
 handed c = c .before .before
@@ -41,8 +41,11 @@ is-float : (c : tie.After-known-told2) → let a = start (float c) .args in
     There (a .text .now) (a .token) × (a .token .kind ≡ Float (c .before .kind .given .0 .0))
 is-float c = here (float c) (c .before .kind .given .1)
 
+table-requires : tie.Need-table-requires
+table-requires c κs = tt
+
 number-kind-requires : tie.Need-number-kind-requires
-number-kind-requires c κs = tt
+number-kind-requires c κs = c .before .table .ensures
 
 enum-known-refusal : tie.Need-enum-known-refusal
 enum-known-refusal c = c .match .keys1
@@ -60,8 +63,10 @@ add-end : tie.Need-add-end
 add-end c = omega (arith, there-fits (is-float (c .before) .0))
 
 float-requires : tie.Need-float-requires
-float-requires c κs = let h = is-float (asked c) in
-    record { order = omega arith; fits = there-fits (h .0); is = there-slice (h .0) (h .1) }
+float-requires c κs =
+    let k = asked c in
+    let h = is-float k in
+    (record { order = omega arith; fits = there-fits (h .0); is = there-slice (h .0) (h .1) }, float k .before .before .table .ensures)
 
 returns : tie.Need-returns
 returns c = float-denied (here (refused c) (c .before .refusal .given .1))
@@ -79,6 +84,7 @@ pub part-spec : {M : Type 1} → statement M
 part-spec =
     tie.close
     (tie.spec
+    table-requires
     number-kind-requires
     enum-known-refusal
     enum-told

@@ -14,7 +14,7 @@ use Rattle.read_integer.proofs.integer.Tie as tie
 
 -- the places: the function's start; and where the number is asked for, if it is refused, if it is a float and if it is an integer
 abbrev start : tie.After-number-kind → tie.Start
-start c = c .before .before .before
+start c = c .before .before .before .before .before
 
 abbrev refused : tie.After-known-told → tie.After-number-kind
 refused c = c .before .before .before
@@ -26,8 +26,8 @@ abbrev integer : tie.After-known-told2 → tie.After-number-kind
 integer c = c .before .before .before
 
 -- where its digits are asked for, and handed over
-abbrev asked : tie.After-whole-arg → tie.After-known-told2
-asked c = c .before .before
+abbrev asked : tie.After-t2 → tie.After-known-told2
+asked c = c .before .before .before
 
 abbrev handed : tie.After-slice-known2 → tie.After-whole
 handed c = c .before .before
@@ -42,8 +42,11 @@ is-integer : (c : tie.After-known-told2) → let a = start (integer c) .args in
     There (a .text .now) (a .token) × (a .token .kind ≡ Integer (c .before .kind .given .0 .0))
 is-integer c = here (integer c) (c .before .kind .given .1)
 
+table-requires : tie.Need-table-requires
+table-requires c κs = tt
+
 number-kind-requires : tie.Need-number-kind-requires
-number-kind-requires c κs = tt
+number-kind-requires c κs = c .before .table .ensures
 
 enum-known-refusal : tie.Need-enum-known-refusal
 enum-known-refusal c = c .match .keys1
@@ -62,8 +65,11 @@ add-end c = omega (arith, there-fits (is-integer (c .before) .0))
 
 whole-requires : tie.Need-whole-requires
 whole-requires c κs =
-    let h = is-integer (asked c) in
-    record { order = omega arith; fits = there-fits (h .0); is = integer-float (made (there-slice (h .0) (h .1)) .0) }
+    let k = asked c in
+    let h = is-integer k in (
+      record { order = omega arith; fits = there-fits (h .0); is = integer-float (made (there-slice (h .0) (h .1)) .0) },
+      integer k .before .before .table .ensures,
+    )
 
 returns : tie.Need-returns
 returns c = integer-denied (here (refused c) (c .before .refusal .given .1))
@@ -81,6 +87,7 @@ pub integer-spec : {M : Type 1} → statement M
 integer-spec =
     tie.close
     (tie.spec
+    table-requires
     number-kind-requires
     enum-known-refusal
     enum-told

@@ -9,7 +9,7 @@ use Rattle.read_integer.proofs.integer_sign.Tie as tie
 
 -- the places: the function's start; and where the number is asked for, if it is refused, if it is a float and if it is an integer
 abbrev start : tie.After-number-kind → tie.Start
-start c = c .before .before
+start c = c .before .before .before .before
 
 abbrev refused : tie.After-known-told → tie.After-number-kind
 refused c = c .before .before .before
@@ -25,8 +25,11 @@ here : (c : tie.After-number-kind) {k : NumberKind} → c .number-kind .result �
     → let a = start c .args in HereNumber (a .text .now) (a .token) k
 here c e = let a = start c .args in subst (HereNumber (a .text .now) (a .token)) e (c .number-kind .ensures)
 
+table-requires : tie.Need-table-requires
+table-requires c κs = tt
+
 number-kind-requires : tie.Need-number-kind-requires
-number-kind-requires c κs = tt
+number-kind-requires c κs = c .before .table .ensures
 
 enum-known-refusal : tie.Need-enum-known-refusal
 enum-known-refusal c = c .match .keys1
@@ -48,4 +51,4 @@ returns-3 c = let h = here (integer c) (c .before .kind .given .1) in ReadsSign.
 
 pub integer-sign-spec : {M : Type 1} → statement M
 integer-sign-spec =
-    tie.close (tie.spec number-kind-requires enum-known-refusal enum-told enum-known-kind returns returns-2 returns-3)
+    tie.close (tie.spec table-requires number-kind-requires enum-known-refusal enum-told enum-known-kind returns returns-2 returns-3)

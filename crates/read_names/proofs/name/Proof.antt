@@ -51,22 +51,23 @@ add-at : tie.Need-add-at
 add-at c = search needs
 
 sub-rest : tie.Need-sub-rest
-sub-rest c = name-some (start c .pre)
+sub-rest c = name-some (start c .pre .0)
 
 returns : tie.Need-returns
-returns c = name-empty (start (c .before) .pre) _ (c .if1 .taken)
+returns c = name-empty (start (c .before) .pre .0) _ (c .if1 .taken)
 
 shared-slice-read-if2 : tie.Need-shared-slice-read-if2
-shared-slice-read-if2 c = name-within (begun (some c) .pre) (some c .if1 .left)
+shared-slice-read-if2 c = name-within (begun (some c) .pre .0) (some c .if1 .left)
 
 returns-2 : tie.Need-returns-2
-returns-2 c = let k = some (c .before) in name-word (begun k .pre) (k .if1 .left) _ (c .if2 .taken)
+returns-2 c = let k = some (c .before) in name-word (begun k .pre .0) (k .if1 .left) _ (c .if2 .taken)
 
 quoted-requires : tie.Need-quoted-requires
 quoted-requires c κs =
     let quote = c .before in
     let k = some (quote .before) in
-    name-quoted (begun k .pre) (k .if1 .left) (quote .if2 .left)
+    let p = begun k .pre in
+    (name-quoted (p .0) (k .if1 .left) (quote .if2 .left), p .1)
 
 enum-known-start : tie.Need-enum-known-start
 enum-known-start c = search needs

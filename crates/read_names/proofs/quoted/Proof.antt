@@ -31,26 +31,26 @@ add-has-escape c = search needs
 has-escape-requires : tie.Need-has-escape-requires
 has-escape-requires c κs = search needs
 
-add-t9 : tie.Need-add-t9
-add-t9 c = search needs
+add-t10 : tie.Need-add-t10
+add-t10 c = search needs
 
-sub-t10 : tie.Need-sub-t10
-sub-t10 c = quoted-long (start (c .before) .pre)
+sub-t11 : tie.Need-sub-t11
+sub-t11 c = quoted-long (start (c .before) .pre .0)
 
 returns : tie.Need-returns
-returns c = let k = c .before in quoted-plain (start k .pre) (k .has-escape .ensures) _ (not-true _ (c .if1 .taken))
+returns c = let k = c .before in quoted-plain (start k .pre .0) (k .has-escape .ensures) _ (not-true _ (c .if1 .taken))
 
 add-decoded-len : tie.Need-add-decoded-len
 add-decoded-len c = search needs
 
 decoded-len-requires : tie.Need-decoded-len-requires
-decoded-len-requires c κs = quoted-whole (start (c .before) .pre)
+decoded-len-requires c κs = let p = start (c .before) .pre in (quoted-whole (p .0), p .1)
 
 returns-2 : tie.Need-returns-2
 returns-2 c =
     let m = c .before in
     let k = escape m in
-    quoted-short (start k .pre) (k .has-escape .ensures) _ (escaped m) (m .decoded-len .ensures) (omega arith)
+    quoted-short (start k .pre .0) (k .has-escape .ensures) _ (escaped m) (m .decoded-len .ensures) (omega arith)
 
 add-decode-into : tie.Need-add-decode-into
 add-decode-into c = search needs
@@ -58,7 +58,8 @@ add-decode-into c = search needs
 decode-into-requires : tie.Need-decode-into-requires
 decode-into-requires c κs =
     let m = measured c in
-    (quoted-whole (start (escape m) .pre), omega (arith, m .decoded-len .ensures))
+    let p = start (escape m) .pre in
+    (quoted-whole (p .0), (omega (arith, m .decoded-len .ensures), p .1))
 
 same-length : tie.Need-same-length
 same-length c = search needs
@@ -67,7 +68,7 @@ returns-3 : tie.Need-returns-3
 returns-3 c =
     let m = measured (copied c .before) in
     let k = escape m in
-    quoted-copied (start k .pre) (k .has-escape .ensures) _ (escaped m) (m .decoded-len .ensures) (omega arith)
+    quoted-copied (start k .pre .0) (k .has-escape .ensures) _ (escaped m) (m .decoded-len .ensures) (omega arith)
     (copied c .decode-into .ensures)
 
 pub quoted-spec : {M : Type 1} → statement M
@@ -76,8 +77,8 @@ quoted-spec =
     (tie.spec
     add-has-escape
     has-escape-requires
-    add-t9
-    sub-t10
+    add-t10
+    sub-t11
     returns
     add-decoded-len
     decoded-len-requires

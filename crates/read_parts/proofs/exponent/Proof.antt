@@ -31,7 +31,7 @@ handed c = c .before .before
 
 -- the number, and where its fraction ends
 abbrev number : (c : tie.Start) → let a = c .args in At (IsFloat (a .hex)) (a .text .now) (a .at) (a .end)
-number c = normal-at (c .pre) refl
+number c = normal-at (c .pre .0) refl
 
 ends : (c : tie.After-end-of) → let a = start (whole c) .args in
     Leaves (a .hex) (a .text .now) (a .at) (a .end) (λ p f e. e) (c .end-of .result)
@@ -47,15 +47,15 @@ mark : (c : tie.Else1) → let ended = c .before in let a = start (whole ended) 
 mark c =
     let ended = c .before in
     let s = start (whole ended) in
-    (omega (arith, leaves-within (number s) (λ p f e. e) (ends ended)), s .pre .fits)
+    (omega (arith, leaves-within (number s) (λ p f e. e) (ends ended)), s .pre .0 .fits)
 
 past-whole-requires : tie.Need-past-whole-requires
-past-whole-requires c κs = number (c .before .before)
+past-whole-requires c κs = let s = c .before .before in (number s, s .pre .1)
 
 fraction-at-requires : tie.Need-fraction-at-requires
 fraction-at-requires c κs =
     let s = start c in
-    (leaves-within (number s) (λ p f e. f ++ e) (c .past-whole .ensures), s .pre .fits)
+    ((leaves-within (number s) (λ p f e. f ++ e) (c .past-whole .ensures), s .pre .0 .fits), s .pre .1)
 
 end-of-requires : tie.Need-end-of-requires
 end-of-requires c κs = tt
@@ -101,7 +101,7 @@ returns-2 c =
     let ended = marked n .before in
     let s = start (whole ended) in
     exponent-handed (number s) (ends ended) (s .args .underscores) (mark (marked n) .0) sign (p .same) (p .within)
-    (handed c .hand .ensures) (gaps (s .pre))
+    (handed c .hand .ensures) (gaps (s .pre .0))
 
 pub exponent-spec : {M : Type 1} → statement M
 exponent-spec =

@@ -61,7 +61,7 @@ enum-told-3 : tie.Need-enum-told-3
 enum-told-3 c = c .match2 .keys1
 
 payload-requires : tie.Need-payload-requires
-payload-requires c κs = let k = its-payload (c .before) in payload-is-at (of-nan k .pre) (nan-val k)
+payload-requires c κs = let k = its-payload (c .before) in payload-is-at (of-nan k .pre .0) (nan-val k)
 
 enum-known-kind-2 : tie.Need-enum-known-kind-2
 enum-known-kind-2 c = c .match .keys4
@@ -70,28 +70,28 @@ enum-told-4 : tie.Need-enum-told-4
 enum-told-4 c = c .match3 .keys1
 
 whole-requires : tie.Need-whole-requires
-whole-requires c κs = let k = its-whole (c .before) in normal-at (of-normal k .pre) (normal k)
+whole-requires c κs = let k = its-whole (c .before) in (normal-at (of-normal k .pre .0) (normal k), of-normal k .pre .1)
 
 enum-told-5 : tie.Need-enum-told-5
 enum-told-5 c = c .match3 .keys2
 
 fraction-requires : tie.Need-fraction-requires
-fraction-requires c κs = let k = its-fraction (c .before) in as-kind (of-normal k .pre) (normal k)
+fraction-requires c κs = let k = its-fraction (c .before) in (as-kind (of-normal k .pre .0) (normal k), of-normal k .pre .1)
 
 enum-told-6 : tie.Need-enum-told-6
 enum-told-6 c = c .match3 .keys3
 
 exponent-requires : tie.Need-exponent-requires
-exponent-requires c κs = let k = its-exponent (c .before) in as-kind (of-normal k .pre) (normal k)
+exponent-requires c κs = let k = its-exponent (c .before) in (as-kind (of-normal k .pre .0) (normal k), of-normal k .pre .1)
 
 enum-told-7 : tie.Need-enum-told-7
 enum-told-7 c = c .match3 .keys4
 
 returns : tie.Need-returns
-returns c = inf-lacks (start (c .before .before) .pre) (c .enum-told .given .1)
+returns c = inf-lacks (start (c .before .before) .pre .0) (c .enum-told .given .1)
 
 returns-2 : tie.Need-returns-2
-returns-2 c = nan-lacks (start (c .before .before) .pre) (c .enum-told2 .given .1)
+returns-2 c = nan-lacks (start (c .before .before) .pre .0) (c .enum-told2 .given .1)
 
 same-length : tie.Need-same-length
 same-length c = search needs
@@ -101,11 +101,11 @@ returns-3 c =
     let called = c .before .before in
     let asked = called .before .before in
     let k = its-payload asked in
-    payload-hands (of-nan k .pre) (nan-val k) (asked .enum-told3 .given .1) (called .payload .ensures)
+    payload-hands (of-nan k .pre .0) (nan-val k) (asked .enum-told3 .given .1) (called .payload .ensures)
 
 returns-4 : tie.Need-returns-4
 returns-4 c =
-    payload-lacks (of-nan (c .before) .pre) (nan-val (c .before))
+    payload-lacks (of-nan (c .before) .pre .0) (nan-val (c .before))
     (λ e. miss others (tagOf the-type Payload) tt (subst (λ (p : FloatPart). OneOf others (tagOf the-type p)) e (c .match2 .keys2)))
 
 same-length-2 : tie.Need-same-length-2
@@ -116,7 +116,7 @@ returns-5 c =
     let called = c .before .before in
     let asked = called .before .before in
     let k = its-whole asked in
-    whole-hands (of-normal k .pre) (normal k) (asked .enum-told4 .given .1) (called .whole .ensures)
+    whole-hands (of-normal k .pre .0) (normal k) (asked .enum-told4 .given .1) (called .whole .ensures)
 
 same-length-3 : tie.Need-same-length-3
 same-length-3 c = search needs
@@ -126,7 +126,7 @@ returns-6 c =
     let called = c .before .before in
     let asked = called .before .before in
     let k = its-fraction asked in
-    likewise (of-normal k .pre) (normal k) (asked .enum-told5 .given .1) (called .fraction .ensures)
+    likewise (of-normal k .pre .0) (normal k) (asked .enum-told5 .given .1) (called .fraction .ensures)
 
 same-length-4 : tie.Need-same-length-4
 same-length-4 c = search needs
@@ -136,10 +136,10 @@ returns-7 c =
     let called = c .before .before in
     let asked = called .before .before in
     let k = its-exponent asked in
-    likewise (of-normal k .pre) (normal k) (asked .enum-told6 .given .1) (called .exponent .ensures)
+    likewise (of-normal k .pre .0) (normal k) (asked .enum-told6 .given .1) (called .exponent .ensures)
 
 returns-8 : tie.Need-returns-8
-returns-8 c = let k = c .before .before in normal-lacks (of-normal k .pre) (normal k) (c .enum-told7 .given .1)
+returns-8 c = let k = c .before .before in normal-lacks (of-normal k .pre .0) (normal k) (c .enum-told7 .given .1)
 
 pub float-spec : {M : Type 1} → statement M
 float-spec =

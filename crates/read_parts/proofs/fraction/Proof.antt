@@ -25,7 +25,7 @@ handed c = c .before .before
 
 -- the number, and where its fraction ends
 abbrev number : (c : tie.Start) → let a = c .args in At (IsFloat (a .hex)) (a .text .now) (a .at) (a .end)
-number c = normal-at (c .pre) refl
+number c = normal-at (c .pre .0) refl
 
 ends : (c : tie.After-end-of) → let a = start (whole c) .args in
     Leaves (a .hex) (a .text .now) (a .at) (a .end) (λ p f e. e) (c .end-of .result)
@@ -36,12 +36,12 @@ ends c =
     (fraction-past (number s) x (whole c .past-whole .ensures sign u p f e x))
 
 past-whole-requires : tie.Need-past-whole-requires
-past-whole-requires c κs = number (c .before .before)
+past-whole-requires c κs = let s = c .before .before in (number s, s .pre .1)
 
 fraction-at-requires : tie.Need-fraction-at-requires
 fraction-at-requires c κs =
     let s = start c in
-    (leaves-within (number s) (λ p f e. f ++ e) (c .past-whole .ensures), s .pre .fits)
+    ((leaves-within (number s) (λ p f e. f ++ e) (c .past-whole .ensures), s .pre .0 .fits), s .pre .1)
 
 end-of-requires : tie.Need-end-of-requires
 end-of-requires c κs = tt
@@ -62,7 +62,7 @@ add-hand c = omega arith
 hand-requires : tie.Need-hand-requires
 hand-requires c κs =
     let s = start (whole (ended c)) in
-    let h = s .pre .fits in
+    let h = s .pre .0 .fits in
     let l = leaves-within (number s) (λ p f e. e) (ends (ended c)) in
     (omega arith, omega arith, omega arith)
 
@@ -75,7 +75,7 @@ returns-2 c =
     let w = whole e in
     let s = start w in
     fraction-handed (number s) (w .past-whole .ensures) (ends e) (s .args .underscores) (omega arith) (handed c .hand .ensures)
-    (gaps (s .pre))
+    (gaps (s .pre .0))
 
 pub fraction-spec : {M : Type 1} → statement M
 fraction-spec =

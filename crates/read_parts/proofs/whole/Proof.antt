@@ -28,18 +28,18 @@ ends c =
     let s = start (began c) in
     λ sign u p f e x.
     c .end-of .ensures (s .args .text .now) _ _ _ (c .before .skip-underscores .ensures)
-    (whole-passed (s .pre) x (began c .past-prefix .ensures sign u p f e x))
+    (whole-passed (s .pre .0) x (began c .past-prefix .ensures sign u p f e x))
 
 sign-at-requires : tie.Need-sign-at-requires
-sign-at-requires c κs = let n = c .before .before .pre in (n .order, n .fits)
+sign-at-requires c κs = let n = c .before .before .pre .0 in (n .order, n .fits)
 
 past-prefix-requires : tie.Need-past-prefix-requires
-past-prefix-requires c κs = c .before .before .before .pre
+past-prefix-requires c κs = c .before .before .before .pre .0
 
 skip-underscores-requires : tie.Need-skip-underscores-requires
 skip-underscores-requires c κs =
     let n = start c .pre in
-    (leaves-within n (λ p f e. p ++ (f ++ e)) (c .past-prefix .ensures), n .fits)
+    ((leaves-within (n .0) (λ p f e. p ++ (f ++ e)) (c .past-prefix .ensures), n .0 .fits), n .1)
 
 end-of-requires : tie.Need-end-of-requires
 end-of-requires c κs = tt
@@ -47,7 +47,7 @@ end-of-requires c κs = tt
 hand-requires : tie.Need-hand-requires
 hand-requires c κs =
     let b = began (c .before) in
-    whole-fits (start b .pre) (b .before .sign-at .ensures) (b .past-prefix .ensures) (ends (c .before))
+    whole-fits (start b .pre .0) (b .before .sign-at .ensures) (b .past-prefix .ensures) (ends (c .before))
 
 same-length : tie.Need-same-length
 same-length c = search needs
@@ -58,7 +58,7 @@ returns c =
     let b = began d in
     let s = start b in
     λ sign u p f e x g.
-    whole-handed (s .pre) x (b .before .sign-at .ensures) (b .past-prefix .ensures sign u p f e x) (ends d sign u p f e x)
+    whole-handed (s .pre .0) x (b .before .sign-at .ensures) (b .past-prefix .ensures sign u p f e x) (ends d sign u p f e x)
     (handed c .hand .ensures) (ap (λ (b : Bool). s .args .hex || b) g)
 
 pub whole-spec : {M : Type 1} → statement M

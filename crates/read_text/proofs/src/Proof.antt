@@ -7,6 +7,9 @@ use borrow.Author.Needs.{needs}
 use Rattle.read_text.proofs.src.Statement.{statement}
 use Rattle.read_text.proofs.src.Tie as tie
 
+table-requires : tie.Need-table-requires
+table-requires c κs = search needs
+
 present-requires : tie.Need-present-requires
 present-requires c κs = search needs
 
@@ -16,8 +19,8 @@ enum-known-refusal c = search needs
 enum-told : tie.Need-enum-told
 enum-told c = search needs
 
-cast-t7 : tie.Need-cast-t7
-cast-t7 c = search needs
+cast-t10 : tie.Need-cast-t10
+cast-t10 c = search needs
 
 returns : tie.Need-returns
 returns c = Read.missing (subst (Here _ _) (c .before .refusal .given .1) (c .before .before .before .present .ensures))
@@ -27,4 +30,4 @@ returns-2 c = src-reads (subst (Here _ _) (c .before .enum-told .given .1) (c .b
 
 pub src-spec : {M : Type 1} → statement M
 src-spec =
-    tie.close (tie.spec present-requires enum-known-refusal enum-told cast-t7 returns returns-2)
+    tie.close (tie.spec table-requires present-requires enum-known-refusal enum-told cast-t10 returns returns-2)

@@ -4,6 +4,19 @@ use borrow.Author.Needs.{needs}
 use Rattle.read_text.proofs.string.Statement.{statement}
 use Rattle.read_text.proofs.string.Tie as tie
 
+-- the places: where the token was asked for; where it is there, seen from where its value is asked for; and where that is handed over
+abbrev taken : tie.After-enum-told → tie.After-taken
+taken c = c .before .before
+
+abbrev there : tie.After-t2 → tie.After-enum-told
+there c = c .before .before .before
+
+abbrev handed : tie.After-slice-known2 → tie.After-quoted
+handed c = c .before .before
+
+table-requires : tie.Need-table-requires
+table-requires c κs = search needs
+
 taken-requires : tie.Need-taken-requires
 taken-requires c κs = search needs
 
@@ -18,7 +31,9 @@ cast-len c = search needs
 
 quoted-requires : tie.Need-quoted-requires
 quoted-requires c κs =
-    string-quoted (taken-there (c .before .before .before .before .taken .ensures) (c .before .before .enum-told .given .1))
+    let k = there c in
+    let t = taken k in
+    (string-quoted (taken-there (t .taken .ensures) (k .enum-told .given .1)), t .before .before .table .ensures)
 
 returns : tie.Need-returns
 returns c = taken-refused _ _ only-string (c .before .before .before .taken .ensures) (c .before .refusal .given .1)
@@ -28,14 +43,14 @@ same-length c = search needs
 
 returns-2 : tie.Need-returns-2
 returns-2 c =
-    let k = c .before .before .before .before .before .before .before in
-    string-reads (taken-there (k .taken .ensures) (c .before .before .before .before .before .enum-told .given .1))
-    (c .before .before .quoted .ensures)
+    let k = there (handed c .before) in
+    string-reads (taken-there (taken k .taken .ensures) (k .enum-told .given .1)) (handed c .quoted .ensures)
 
 pub string-spec : {M : Type 1} → statement M
 string-spec =
     tie.close
     (tie.spec
+    table-requires
     taken-requires
     enum-known-refusal
     enum-told

@@ -10,6 +10,7 @@ use Rattle.wat.specs.declared.TokenKind.the-variants.{Integer, Float}
 use Rattle.wat_values.specs.Reading.{There}
 use Rattle.read_token.specs.Here.{Here, Denied}
 use Rattle.read_token.specs.declared.TokenCheck.{TokenCheck}
+use borrow.Author.Needs.{needs}
 use Rattle.read_token.proofs.number_kind.Statement.{statement}
 use Rattle.read_token.proofs.number_kind.Tie as tie
 
@@ -44,7 +45,7 @@ there : (c : tie.After-enum-told) → let a = start (present c) .args in There (
 there c = here (present c) (c .enum-told .given .1)
 
 present-requires : tie.Need-present-requires
-present-requires c κs = tt
+present-requires c κs = search needs
 
 enum-known-refusal : tie.Need-enum-known-refusal
 enum-known-refusal c = c .match .keys1

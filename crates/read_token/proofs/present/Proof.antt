@@ -15,7 +15,8 @@ enum-told : tie.Need-enum-told
 enum-told c = c .match .keys2
 
 present-at-requires : tie.Need-present-at-requires
-present-at-requires c κs = subst (Meets _ _) (c .enum-told .given .1) (c .before .before .check .ensures)
+present-at-requires c κs =
+    let k = c .before .before in (subst (Meets _ _) (c .enum-told .given .1) (k .check .ensures), k .before .before .pre)
 
 returns : tie.Need-returns
 returns c = Missing.rejected (subst (Meets _ _) (c .before .refusal .given .1) (c .before .before .before .check .ensures))

@@ -58,7 +58,10 @@ wide-requires : tie.Need-wide-requires
 wide-requires c κs = search needs
 
 unicode-value-requires : tie.Need-unicode-value-requires
-unicode-value-requires c κs = let ch = character (told (c .before .before)) in omega (arith, ch .fits, ch .some)
+unicode-value-requires c κs =
+    let k = told (c .before .before) in
+    let ch = character k in
+    (omega (arith, ch .fits, ch .some), start (asked k) .pre .1)
 
 returns-2 : tie.Need-returns-2
 returns-2 c =
@@ -72,8 +75,8 @@ returns-2 c =
     (rw (w .wide .ensures) d) in
     says-same (a .s .now) (a .at) (c .unicode-value .result) e (c .unicode-value .ensures)
 
-add-t8 : tie.Need-add-t8
-add-t8 c = omega (arith, character (told (c .before)) .few)
+add-t9 : tie.Need-add-t9
+add-t9 c = omega (arith, character (told (c .before)) .few)
 
 returns-3 : tie.Need-returns-3
 returns-3 c =
@@ -97,5 +100,5 @@ first-digit-spec =
     wide-requires
     unicode-value-requires
     returns-2
-    add-t8
+    add-t9
     returns-3)

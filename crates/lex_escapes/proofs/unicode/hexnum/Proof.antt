@@ -13,10 +13,10 @@ use Rattle.lex_escapes.proofs.unicode.hexnum.Statement.{statement}
 use Rattle.lex_escapes.proofs.unicode.hexnum.Tie as tie
 
 abbrev Inv-loop : tie.InvT-loop
-Inv-loop s at first value₀ under₀ i₀ value under i = Run s at first i value under
+Inv-loop s at first t value₀ under₀ i₀ value under i = Run s at first i value under
 
 abbrev μ-loop : tie.MeasureT-loop
-μ-loop s at first value₀ under₀ i₀ value under i = length s - i
+μ-loop s at first t value₀ under₀ i₀ value under i = length s - i
 
 -- the places: the function's start; where the loop begins a round; and where the byte is not `_`
 abbrev start : tie.At-loop Inv-loop μ-loop → tie.Start Inv-loop μ-loop
@@ -81,11 +81,11 @@ returns c =
     run-stop _ _ _ (l .i) (l .value) (l .under) (l .inv) (omega arith) (other h .if1 .left) _ _ e (c .close .ensures .0)
     (c .close .ensures .1)
 
-sub-t18 : tie.Need-sub-t18 Inv-loop μ-loop
-sub-t18 c = omega arith
+sub-t19 : tie.Need-sub-t19 Inv-loop μ-loop
+sub-t19 c = omega arith
 
-add-t19 : tie.Need-add-t19 Inv-loop μ-loop
-add-t19 c = omega arith
+add-t20 : tie.Need-add-t20 Inv-loop μ-loop
+add-t20 c = omega arith
 
 returns-2 : tie.Need-returns-2 Inv-loop μ-loop
 returns-2 c =
@@ -149,8 +149,8 @@ hexnum-spec =
     add-close
     close-requires
     returns
-    sub-t18
-    add-t19
+    sub-t19
+    add-t20
     returns-2
     mul-value
     wide-requires-2

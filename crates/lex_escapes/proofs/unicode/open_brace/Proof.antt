@@ -51,7 +51,10 @@ cast-if1 : tie.Need-cast-if1
 cast-if1 c = search needs
 
 first-digit-requires : tie.Need-first-digit-requires
-first-digit-requires c κs = let ch = character (c .before) in omega (arith, ch .fits, ch .some)
+first-digit-requires c κs =
+    let k = c .before in
+    let ch = character k in
+    (omega (arith, ch .fits, ch .some), start (asked k) .pre .1)
 
 returns-2 : tie.Need-returns-2
 returns-2 c =
@@ -60,11 +63,11 @@ returns-2 c =
     let e = brace-yes (a .s .now) (a .at + 2) _ _ (character ch) (a .settings) (a .at + 3) (omega arith) (c .before .if1 .taken) in
     says-same (a .s .now) (a .at) (c .first-digit .result) e (c .first-digit .ensures)
 
-cast-t10 : tie.Need-cast-t10
-cast-t10 c = search needs
+cast-t11 : tie.Need-cast-t11
+cast-t11 c = search needs
 
-add-t7 : tie.Need-add-t7
-add-t7 c = omega (arith, character (c .before) .few)
+add-t8 : tie.Need-add-t8
+add-t8 c = omega (arith, character (c .before) .few)
 
 returns-3 : tie.Need-returns-3
 returns-3 c =
@@ -85,6 +88,6 @@ open-brace-spec =
     cast-if1
     first-digit-requires
     returns-2
-    cast-t10
-    add-t7
+    cast-t11
+    add-t8
     returns-3)

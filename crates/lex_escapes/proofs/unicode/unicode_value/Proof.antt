@@ -82,29 +82,29 @@ returns c =
     let e = number-scalar (a .s .now) (a .at + 3) (a .at + (3 + k)) _ k _ (number (told s) .0 .is) (omega arith) scalar in
     says-same (a .s .now) (a .at) (c .close-brace .result) e (c .close-brace .ensures)
 
-add-t14 : tie.Need-add-t14
-add-t14 c = omega (arith, number (told (c .before)) .1)
-
 add-t15 : tie.Need-add-t15
 add-t15 c = omega (arith, number (told (c .before)) .1)
+
+add-t16 : tie.Need-add-t16
+add-t16 c = omega (arith, number (told (c .before)) .1)
 
 enum-known-len : tie.Need-enum-known-len
 enum-known-len c = search needs
 
-add-t18 : tie.Need-add-t18
-add-t18 c = omega (arith, lone c .1)
-
 add-t19 : tie.Need-add-t19
 add-t19 c = omega (arith, lone c .1)
+
+add-t20 : tie.Need-add-t20
+add-t20 c = omega (arith, lone c .1)
 
 enum-known-len-2 : tie.Need-enum-known-len-2
 enum-known-len-2 c = search needs
 
-add-t22 : tie.Need-add-t22
-add-t22 c = omega (arith, big c .1)
-
 add-t23 : tie.Need-add-t23
 add-t23 c = omega (arith, big c .1)
+
+add-t24 : tie.Need-add-t24
+add-t24 c = omega (arith, big c .1)
 
 returns-2 : tie.Need-returns-2
 returns-2 c =
@@ -138,14 +138,14 @@ unicode-value-spec =
     is-scalar-requires
     close-brace-requires
     returns
-    add-t14
     add-t15
+    add-t16
     enum-known-len
-    add-t18
     add-t19
+    add-t20
     enum-known-len-2
-    add-t22
     add-t23
+    add-t24
     returns-2
     returns-3
     returns-4)

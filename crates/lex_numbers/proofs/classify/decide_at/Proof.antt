@@ -21,7 +21,7 @@ left : (c : tie.After-known-told) → let a = start c .args in let v = c .before
 left c = let a = start c .args in ap (left-at (a .text .now) (a .end)) (c .before .digits .given .1)
 
 within : (c : tie.After-known-told) → c .before .digits .given .0 .1 .0 ≤ start c .args .end
-within c = subst (Within (start c .args .end)) (c .before .digits .given .1) (start c .pre .0)
+within c = subst (Within (start c .args .end)) (c .before .digits .given .1) (start c .pre .0 .0)
 
 enum-told : tie.Need-enum-told
 enum-told c = search needs
@@ -35,7 +35,7 @@ returns c =
     decide-integer (a .sign) (a .hex) (left (c .before)) (at-end-empty (a .text .now) _ (a .end) (c .if1 .taken))
 
 float-at-requires : tie.Need-float-at-requires
-float-at-requires c κs = let w = within (c .before) in omega arith
+float-at-requires c κs = let w = within (c .before) in (omega arith, start (c .before) .pre .1)
 
 returns-2 : tie.Need-returns-2
 returns-2 c =

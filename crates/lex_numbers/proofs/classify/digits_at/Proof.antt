@@ -13,8 +13,8 @@ add-skip-underscores c = search needs
 skip-underscores-requires : tie.Need-skip-underscores-requires
 skip-underscores-requires c κs =
     let a = c .before .before .args in
-    let w : a .at + 2 ≤ a .end = rw (c .if1 .taken) at (c .before .before .pre .0) in
-    omega arith
+    let w : a .at + 2 ≤ a .end = rw (c .if1 .taken) at (c .before .before .pre .0 .0) in
+    (omega arith, c .before .before .pre .1)
 
 returns : tie.Need-returns
 returns c = rw (c .before .if1 .taken) (c .skip-underscores .ensures)

@@ -20,8 +20,8 @@ starts-requires c κs = search needs
 
 digits-at-requires : tie.Need-digits-at-requires
 digits-at-requires c κs =
-    let w = prefix-within (c .starts .result) (c .starts .ensures .within) (start c .pre .0) in
-    omega arith
+    let w = prefix-within (c .starts .result) (c .starts .ensures .within) (start c .pre .0 .0) in
+    (omega arith, start c .pre .1)
 
 decide-at-requires : tie.Need-decide-at-requires
 decide-at-requires c κs = search needs

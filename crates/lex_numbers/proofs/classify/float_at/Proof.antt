@@ -51,7 +51,7 @@ enum-known-f c = search needs
 exponent-at-requires : tie.Need-exponent-at-requires
 exponent-at-requires c κs =
     let w = found-within (at-fraction c .fraction-at .ensures) (c .before .f .given .1) in
-    omega arith
+    (omega arith, start (at-fraction c) .pre .1)
 
 enum-told-2 : tie.Need-enum-told-2
 enum-told-2 c = search needs

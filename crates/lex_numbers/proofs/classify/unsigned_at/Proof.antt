@@ -127,7 +127,7 @@ payload-within : (c : tie.Then5) → let a = start (from-payload (c .before)) .a
 payload-within c = begins-within (c .before .starts .ensures) (c .if5 .taken)
 
 payload-at-requires : tie.Need-payload-at-requires
-payload-at-requires c κs = omega (arith, payload-within c)
+payload-at-requires c κs = (omega (arith, payload-within c), start (from-payload (c .before)) .pre .1)
 
 returns-5 : tie.Need-returns-5
 returns-5 c =

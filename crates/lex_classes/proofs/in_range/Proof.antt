@@ -1,9 +1,9 @@
--- `lex_numbers::in_range` meets its contract: the test is the definition.
+-- `in_range` meets its contract: the test is the definition.
 -- Assumes nothing.
 use mathlib.Core.Path.{refl}
 use Rattle.wat.specs.Bytes.{between}
-use Rattle.lex_numbers.proofs.in_range.Statement.{statement}
-use Rattle.lex_numbers.proofs.in_range.Tie as tie
+use Rattle.lex_classes.proofs.in_range.Statement.{statement}
+use Rattle.lex_classes.proofs.in_range.Tie as tie
 
 returns : tie.Need-returns
 unfolding between

@@ -1,9 +1,9 @@
--- `lex_numbers::is_digit` meets its contract: the test is the definition, range by range.
+-- `is_digit` meets its contract: the test is the definition, range by range.
 -- Assumes nothing.
 use borrow.Author.Needs.{needs}
 use Rattle.wat.specs.Numbers.{digit}
-use Rattle.lex_numbers.proofs.is_digit.Statement.{statement}
-use Rattle.lex_numbers.proofs.is_digit.Tie as tie
+use Rattle.lex_classes.proofs.is_digit.Statement.{statement}
+use Rattle.lex_classes.proofs.is_digit.Tie as tie
 
 in-range-requires : tie.Need-in-range-requires
 in-range-requires c κs = search needs
