@@ -1,24 +1,23 @@
--- What the arms of a `match` show of wat's tests. Assumes nothing.
+-- What the answers of a class and the arms of a `match` show of wat's tests. Assumes nothing.
 use Prim.Native.Nat.{ℕ, zero, suc, _+_, _-_, _*_, _/_, _%_, _≤_, _<_}
-use mathlib.Core.Path.{_≡_, refl, sym, ap, _∙_}
-use mathlib.Core.Logic.{inl, inr, ⊎-elim}
-use mathlib.Core.Bool.{Bool, true, false, _||_}
+use mathlib.Core.Path.{_≡_, refl, ap, _∙_}
+use mathlib.Core.Logic.{⊎-elim}
+use mathlib.Core.Bool.{Bool, true, false}
 use mathlib.Core.Option.{none, some}
 use mathlib.Core.List.{List, [], _∷_}
 use native.Mathlib.Omega.{arith}
 use lib.Dec.{eqb}
-use types.Run.{OneOf}
-use borrow.Author.Tests.{eqb-true, eqb-false, eq-eqb, ne-eqb, lt-ltb}
+use borrow.Author.Tests.{eqb-true, eqb-false, ne-eqb, lt-ltb, le-ltb, le-leb, lt-leb}
 use Rattle.wat.specs.Bytes.{byte, between, has}
-use Rattle.wat.specs.Chars.{space, idchar, punctuation}
-use Rattle.wat.specs.declared.Family.the-variants.{Single as single, Other as other}
-use Rattle.wat.specs.LexModel.{family}
+use Rattle.wat.specs.Chars.{control}
+use Rattle.wat.specs.declared.Family.the-variants.{Run as run, Other as other}
 use Rattle.wat.specs.Numbers.{digit}
 use Rattle.wat.specs.StringModel.{hexOf}
 use Rattle.wat.proofs.Basics.{between-in, between-true, or-split, or-no}
 use Rattle.wat.specs.Utf8Model.{pick}
 use Rattle.wat.proofs.Utf8Rows.{pick-both}
 use Rattle.lex_classes.specs.Ask.{digitOf}
+use Rattle.lex_classes.specs.Table.{beginsBy}
 
 -- ---- among some numbers, or none of them
 
@@ -44,34 +43,22 @@ in-range test lo (suc n) x e l h = go (eqb lo x) refl (in-range test (suc lo) n 
     go true p ih = rw (eqb-true lo x p) at (pick-both (test lo) _ e .0)
     go false p ih = let d = eqb-false lo x p in ih (omega arith) (omega arith)
 
--- the keys of an arm
-pub has-key : (ks : List ℕ) (x : ℕ) → OneOf ks x → has x ks ≡ true
-unfolding has
-has-key [] x o = absurd o
-has-key (k ∷ []) x o = rw (eq-eqb k x (sym o))
-has-key (k ∷ k′ ∷ ks) x (inl e) = rw (eq-eqb k x (sym e))
-has-key (k ∷ k′ ∷ ks) x (inr o) = go (eqb k x) (has-key (k′ ∷ ks) x o)
-  where
-    go : (b : Bool) → has x (k′ ∷ ks) ≡ true → b || has x (k′ ∷ ks) ≡ true
-    go true e = refl
-    go false e = e
+-- ---- what a byte of a class begins
 
-pub no-key : (ks : List ℕ) (x : ℕ) → (OneOf ks x → ⊥) → has x ks ≡ false
-unfolding has
-no-key [] x n = refl
-no-key (k ∷ []) x n = rw (ne-eqb k x (λ e. n (sym e)))
-no-key (k ∷ k′ ∷ ks) x n = rw (ne-eqb k x (λ e. n (inl (sym e)))) (no-key (k′ ∷ ks) x (λ o. n (inr o)))
+pub begins-run : (n : ℕ) → 8 ≤ n → beginsBy n ≡ run
+begins-run n h = rw (le-leb 8 n h, beginsBy)
 
--- ---- what a byte begins
+pub begins-other : (n : ℕ) → n < 8 → (n ≡ 1 → ⊥) → (n ≡ 4 → ⊥) → (n ≡ 5 → ⊥) → (n ≡ 6 → ⊥)
+    → (n ≡ 7 → ⊥) → (n ≡ 3 → ⊥) → beginsBy n ≡ other
+begins-other n h a b c d f g =
+    rw (lt-leb 8 n h, ne-eqb n 1 a, ne-eqb n 4 b, ne-eqb n 5 c, ne-eqb n 6 d, ne-eqb n 7 f, ne-eqb n 3 g, beginsBy)
 
-module _ (x : ℕ) (s : space x ≡ false) (o : x ≡ byte "(" → ⊥) (c : x ≡ byte ")" → ⊥) (m : x ≡ byte ";" → ⊥) where
-  pub family-single : punctuation x ≡ true → family x ≡ single
-  unfolding family
-  family-single p = rw (s, ne-eqb x (byte "(") o, ne-eqb x (byte ")") c, ne-eqb x (byte ";") m, p, family)
+-- ---- control characters
 
-  pub family-none : punctuation x ≡ false → idchar x ≡ false → (x ≡ byte "\"" → ⊥) → family x ≡ other
-  unfolding family
-  family-none p i q = rw (s, ne-eqb x (byte "(") o, ne-eqb x (byte ")") c, ne-eqb x (byte ";") m, p, i, ne-eqb x (byte "\"") q, family)
+-- none is beyond a byte
+pub control-far : (c : ℕ) → 0xff < c → control c ≡ false
+unfolding control
+control-far c h = rw (le-ltb c 0x20 (omega arith), ne-eqb c 0x7F (omega arith))
 
 -- ---- hexadecimal digits
 

@@ -5,97 +5,84 @@ ghost use mathlib.Core.Path.{_≡_};
 ghost use mathlib.Core.Bool.{true, false};
 ghost use Prim.Native.Nat.{_+_, _*_, _/_, _%_, _≤_};
 ghost use lib.ListN.{length};
-ghost use Rattle.wat.specs.Bytes.{between};
 ghost use Rattle.wat.specs.Numbers.{digit};
-ghost use Rattle.wat.specs.Chars.{idchar, space, punctuation, letter, isScalar, control, confusing};
+ghost use Rattle.wat.specs.Chars.{idchar, space, letter, isScalar, control, confusing};
 ghost use Rattle.wat.specs.LexModel.{family};
 ghost use Rattle.wat.specs.StringModel.{hexOf};
-ghost use Rattle.lex_classes.specs.Table.{Marked, Classes};
+ghost use Rattle.lex_classes.specs.Table.{Classes};
 ghost use Rattle.lex_classes.specs.Ask.{digitOf, raw};
 ghost use Rattle.lex_classes.specs.Scan.{Scanned};
 use wat::Family;
 
-// A byte lookup table: 1 for the 4 whitespace bytes of the `*.wat` format, ' ', '\t', '\r' and '\n'.
+// What a byte means to the lexer is its class, and this is the one table of them: every question about a byte is
+// answered from here.
+const CT: u8 = 0; // control characters, but for the white ones
+
+const WS: u8 = 1; // white space: ' ', '\t', '\n' and '\r'
+
+const NA: u8 = 2; // bytes of characters that are not ASCII
+
+const QU: u8 = 3; // "
+
+const OP: u8 = 4; // (
+
+const CL: u8 = 5; // )
+
+const SC: u8 = 6; // ;
+
+const PU: u8 = 7; // the other punctuation: , [ ] { }
+
+const ID: u8 = 8; // idchars of no class below; from here on all are idchars
+
+const DI: u8 = 9; // 0 to 9
+
+const UX: u8 = 10; // A to F
+
+const LX: u8 = 11; // a to f
+
+const LO: u8 = 12; // g to z
+
+const BS: u8 = 13; // \
+
 #[rattlefmt::skip]
-const WS: [u8; 256] = [
-    //                                   \t \n       \r
-    /* 0x00 */ 0, 0, 0, 0, 0, 0, 0, 0, 0, 1, 1, 0, 0, 1, 0, 0,
-    /* 0x10 */ 0, 0, 0, 0, 0, 0, 0, 0, 0, 0, 0, 0, 0, 0, 0, 0,
-    //        ' '
-    /* 0x20 */ 1, 0, 0, 0, 0, 0, 0, 0, 0, 0, 0, 0, 0, 0, 0, 0,
-    /* 0x30 */ 0, 0, 0, 0, 0, 0, 0, 0, 0, 0, 0, 0, 0, 0, 0, 0,
-    /* 0x40 */ 0, 0, 0, 0, 0, 0, 0, 0, 0, 0, 0, 0, 0, 0, 0, 0,
-    /* 0x50 */ 0, 0, 0, 0, 0, 0, 0, 0, 0, 0, 0, 0, 0, 0, 0, 0,
-    /* 0x60 */ 0, 0, 0, 0, 0, 0, 0, 0, 0, 0, 0, 0, 0, 0, 0, 0,
-    /* 0x70 */ 0, 0, 0, 0, 0, 0, 0, 0, 0, 0, 0, 0, 0, 0, 0, 0,
-    /* 0x80 */ 0, 0, 0, 0, 0, 0, 0, 0, 0, 0, 0, 0, 0, 0, 0, 0,
-    /* 0x90 */ 0, 0, 0, 0, 0, 0, 0, 0, 0, 0, 0, 0, 0, 0, 0, 0,
-    /* 0xa0 */ 0, 0, 0, 0, 0, 0, 0, 0, 0, 0, 0, 0, 0, 0, 0, 0,
-    /* 0xb0 */ 0, 0, 0, 0, 0, 0, 0, 0, 0, 0, 0, 0, 0, 0, 0, 0,
-    /* 0xc0 */ 0, 0, 0, 0, 0, 0, 0, 0, 0, 0, 0, 0, 0, 0, 0, 0,
-    /* 0xd0 */ 0, 0, 0, 0, 0, 0, 0, 0, 0, 0, 0, 0, 0, 0, 0, 0,
-    /* 0xe0 */ 0, 0, 0, 0, 0, 0, 0, 0, 0, 0, 0, 0, 0, 0, 0, 0,
-    /* 0xf0 */ 0, 0, 0, 0, 0, 0, 0, 0, 0, 0, 0, 0, 0, 0, 0, 0,
+const CLASSES: [u8; 256] = [
+    //                                             \t  \n          \r
+    /* 0x00 */ CT, CT, CT, CT, CT, CT, CT, CT, CT, WS, WS, CT, CT, WS, CT, CT,
+    /* 0x10 */ CT, CT, CT, CT, CT, CT, CT, CT, CT, CT, CT, CT, CT, CT, CT, CT,
+    //        ' '  !   "   #   $   %   &   '   (   )   *   +   ,   -   .   /
+    /* 0x20 */ WS, ID, QU, ID, ID, ID, ID, ID, OP, CL, ID, ID, PU, ID, ID, ID,
+    //         0   1   2   3   4   5   6   7   8   9   :   ;   <   =   >   ?
+    /* 0x30 */ DI, DI, DI, DI, DI, DI, DI, DI, DI, DI, ID, SC, ID, ID, ID, ID,
+    //         @   A   B   C   D   E   F   G   H   I   J   K   L   M   N   O
+    /* 0x40 */ ID, UX, UX, UX, UX, UX, UX, ID, ID, ID, ID, ID, ID, ID, ID, ID,
+    //         P   Q   R   S   T   U   V   W   X   Y   Z   [   \   ]   ^   _
+    /* 0x50 */ ID, ID, ID, ID, ID, ID, ID, ID, ID, ID, ID, PU, BS, PU, ID, ID,
+    //         `   a   b   c   d   e   f   g   h   i   j   k   l   m   n   o
+    /* 0x60 */ ID, LX, LX, LX, LX, LX, LX, LO, LO, LO, LO, LO, LO, LO, LO, LO,
+    //         p   q   r   s   t   u   v   w   x   y   z   {   |   }   ~
+    /* 0x70 */ LO, LO, LO, LO, LO, LO, LO, LO, LO, LO, LO, PU, ID, PU, ID, CT,
+    /* 0x80 */ NA, NA, NA, NA, NA, NA, NA, NA, NA, NA, NA, NA, NA, NA, NA, NA,
+    /* 0x90 */ NA, NA, NA, NA, NA, NA, NA, NA, NA, NA, NA, NA, NA, NA, NA, NA,
+    /* 0xa0 */ NA, NA, NA, NA, NA, NA, NA, NA, NA, NA, NA, NA, NA, NA, NA, NA,
+    /* 0xb0 */ NA, NA, NA, NA, NA, NA, NA, NA, NA, NA, NA, NA, NA, NA, NA, NA,
+    /* 0xc0 */ NA, NA, NA, NA, NA, NA, NA, NA, NA, NA, NA, NA, NA, NA, NA, NA,
+    /* 0xd0 */ NA, NA, NA, NA, NA, NA, NA, NA, NA, NA, NA, NA, NA, NA, NA, NA,
+    /* 0xe0 */ NA, NA, NA, NA, NA, NA, NA, NA, NA, NA, NA, NA, NA, NA, NA, NA,
+    /* 0xf0 */ NA, NA, NA, NA, NA, NA, NA, NA, NA, NA, NA, NA, NA, NA, NA, NA,
 ];
 
-// The same for idchars: in runs of them a lookup takes half the time of the Rust's `match`.
-#[rattlefmt::skip]
-const IDCHARS: [u8; 256] = [
-    /* 0x00 */ 0, 0, 0, 0, 0, 0, 0, 0, 0, 0, 0, 0, 0, 0, 0, 0,
-    /* 0x10 */ 0, 0, 0, 0, 0, 0, 0, 0, 0, 0, 0, 0, 0, 0, 0, 0,
-    //            !  "  #  $  %  &  '  (  )  *  +  ,  -  .  /
-    /* 0x20 */ 0, 1, 0, 1, 1, 1, 1, 1, 0, 0, 1, 1, 0, 1, 1, 1,
-    //         0  1  2  3  4  5  6  7  8  9  :  ;  <  =  >  ?
-    /* 0x30 */ 1, 1, 1, 1, 1, 1, 1, 1, 1, 1, 1, 0, 1, 1, 1, 1,
-    //         @  A  B  C  D  E  F  G  H  I  J  K  L  M  N  O
-    /* 0x40 */ 1, 1, 1, 1, 1, 1, 1, 1, 1, 1, 1, 1, 1, 1, 1, 1,
-    //         P  Q  R  S  T  U  V  W  X  Y  Z  [  \  ]  ^  _
-    /* 0x50 */ 1, 1, 1, 1, 1, 1, 1, 1, 1, 1, 1, 0, 1, 0, 1, 1,
-    //         `  a  b  c  d  e  f  g  h  i  j  k  l  m  n  o
-    /* 0x60 */ 1, 1, 1, 1, 1, 1, 1, 1, 1, 1, 1, 1, 1, 1, 1, 1,
-    //         p  q  r  s  t  u  v  w  x  y  z  {  |  }  ~
-    /* 0x70 */ 1, 1, 1, 1, 1, 1, 1, 1, 1, 1, 1, 0, 1, 0, 1, 0,
-    /* 0x80 */ 0, 0, 0, 0, 0, 0, 0, 0, 0, 0, 0, 0, 0, 0, 0, 0,
-    /* 0x90 */ 0, 0, 0, 0, 0, 0, 0, 0, 0, 0, 0, 0, 0, 0, 0, 0,
-    /* 0xa0 */ 0, 0, 0, 0, 0, 0, 0, 0, 0, 0, 0, 0, 0, 0, 0, 0,
-    /* 0xb0 */ 0, 0, 0, 0, 0, 0, 0, 0, 0, 0, 0, 0, 0, 0, 0, 0,
-    /* 0xc0 */ 0, 0, 0, 0, 0, 0, 0, 0, 0, 0, 0, 0, 0, 0, 0, 0,
-    /* 0xd0 */ 0, 0, 0, 0, 0, 0, 0, 0, 0, 0, 0, 0, 0, 0, 0, 0,
-    /* 0xe0 */ 0, 0, 0, 0, 0, 0, 0, 0, 0, 0, 0, 0, 0, 0, 0, 0,
-    /* 0xf0 */ 0, 0, 0, 0, 0, 0, 0, 0, 0, 0, 0, 0, 0, 0, 0, 0,
-];
-
-fn whitespace() -> [u8; 256]
-    ensures { λ r. ⌜ Marked space r ⌝ }
-{
-    WS
-}
-
-fn idchars() -> [u8; 256]
-    ensures { λ r. ⌜ Marked idchar r ⌝ }
-{
-    IDCHARS
-}
-
-// The table to lend: 1 for white space, 2 for an idchar. A constant array is copied wherever it is named.
+// The table to lend: once for a call, since a constant array is stored anew wherever it is named.
 pub fn table() -> [u8; 256]
     ensures { λ r. ⌜ Classes r ⌝ }
 {
-    let ws = whitespace();
-    let mut t = idchars();
-    let mut b: usize = 0;
-    while b < 256 {
-        t[b] = ws[b] + 2 * t[b];
-        b += 1;
-    }
-    t
+    CLASSES
 }
 
 pub fn is_ws(t: &[u8; 256], b: u8) -> bool
     requires { ⌜ Classes (now t) ⌝ }
     ensures { λ r. ⌜ r ≡ space b ⌝ }
 {
-    t[b as usize] % 2 == 1
+    t[b as usize] == WS
 }
 
 // https://webassembly.github.io/spec/core/text/values.html#text-idchar
@@ -103,41 +90,26 @@ pub fn is_idchar(t: &[u8; 256], b: u8) -> bool
     requires { ⌜ Classes (now t) ⌝ }
     ensures { λ r. ⌜ r ≡ idchar b ⌝ }
 {
-    t[b as usize] >= 2
+    ID <= t[b as usize]
 }
 
-pub fn is_punctuation(b: u8) -> bool
-    ensures { λ r. ⌜ r ≡ punctuation b ⌝ }
-{
-    match b {
-        b',' | b';' | b'[' | b']' | b'{' | b'}' => true,
-        _ => false,
-    }
-}
-
-// What a byte begins.
+// What a byte begins: the classes of most bytes first.
 pub fn begins(t: &[u8; 256], b: u8) -> Family
     requires { ⌜ Classes (now t) ⌝ }
     ensures { λ r. ⌜ r ≡ family b ⌝ }
 {
-    if is_idchar(t, b) {
+    let class = t[b as usize];
+    if ID <= class {
         return Family::Run;
     }
-    if is_ws(t, b) {
-        return Family::Spaces;
-    }
-    match b {
-        b'(' => Family::OpenParen,
-        b')' => Family::CloseParen,
-        b';' => Family::Semi,
-        b'"' => Family::Run,
-        _ => {
-            if is_punctuation(b) {
-                Family::Single
-            } else {
-                Family::Other
-            }
-        }
+    match class {
+        WS => Family::Spaces,
+        OP => Family::OpenParen,
+        CL => Family::CloseParen,
+        SC => Family::Semi,
+        PU => Family::Single,
+        QU => Family::Run,
+        _ => Family::Other,
     }
 }
 
@@ -146,7 +118,8 @@ pub fn is_letter(t: &[u8; 256], b: u8) -> bool
     requires { ⌜ Classes (now t) ⌝ }
     ensures { λ r. ⌜ r ≡ letter b ⌝ }
 {
-    (b'a' <= b) & (b <= b'z')
+    let class = t[b as usize];
+    (LX <= class) & (class <= LO)
 }
 
 // A digit: 0 to 9, and A to F and a to f where it is hexadecimal.
@@ -154,13 +127,11 @@ pub fn is_digit(t: &[u8; 256], hex: bool, b: u8) -> bool
     requires { ⌜ Classes (now t) ⌝ }
     ensures { λ r. ⌜ r ≡ digit hex b ⌝ }
 {
-    in_range(b'0', b'9', b) | (hex & (in_range(b'A', b'F', b) | in_range(b'a', b'f', b)))
-}
-
-fn in_range(lo: u8, hi: u8, x: u8) -> bool
-    ensures { λ r. ⌜ r ≡ between lo hi x ⌝ }
-{
-    (lo <= x) & (x <= hi)
+    let class = t[b as usize];
+    if hex {
+        return (DI <= class) & (class <= LX);
+    }
+    class == DI
 }
 
 // The value of a hexadecimal digit: its low four bits, and 9 for a letter.
@@ -189,7 +160,11 @@ pub fn is_control(t: &[u8; 256], c: u32) -> bool
     requires { ⌜ Classes (now t) ⌝ }
     ensures { λ r. ⌜ r ≡ control c ⌝ }
 {
-    (c < 0x20) | (c == 0x7f)
+    if 0xff < c {
+        return false;
+    }
+    let class = t[c as usize];
+    (class == CT) | ((class == WS) & (c != 0x20))
 }
 
 // An ASCII character that a string holds as it is: none that 12 refuses, no `"` and no `\`.
@@ -197,7 +172,8 @@ pub fn is_raw(t: &[u8; 256], b: u8) -> bool
     requires { ⌜ Classes (now t) ⌝ }
     ensures { λ r. ⌜ r ≡ raw b ⌝ }
 {
-    in_range(0x20, 0x7e, b) & ((b != b'"') & (b != b'\\'))
+    let class = t[b as usize];
+    ((OP <= class) & (class <= LO)) | (b == b' ')
 }
 
 pub fn is_scalar(n: u32) -> bool

@@ -1,67 +1,72 @@
--- `begins` answers wat's `family`: the classes of the table first, since most bytes are in one. Assumes nothing.
+-- What the byte's class begins is wat's `family`. Assumes nothing.
 use Prim.Native.Nat.{ℕ}
-use mathlib.Core.Path.{sym, ap, _∙_}
-use Rattle.wat.specs.Bytes.{between, has}
-use Rattle.wat.specs.Chars.{space, idchar, punctuation}
-use Rattle.wat.specs.LexModel.{family}
-use Rattle.wat.proofs.Families.{family-space, family-idchar}
-use Rattle.lex_classes.proofs.AskLaws.{family-single, family-none}
+use mathlib.Core.Path.{_≡_, ap, sym, _∙_}
+use lib.ListN.{getD}
 use borrow.Author.Needs.{needs}
+use Rattle.wat.specs.LexModel.{family}
+use Rattle.lex_classes.specs.Table.{Answers, beginsBy}
+use Rattle.lex_classes.proofs.AskLaws.{begins-run, begins-other}
 use Rattle.lex_classes.proofs.begins.Statement.{statement}
 use Rattle.lex_classes.proofs.begins.Tie as tie
 
-is-idchar-requires : tie.Need-is-idchar-requires
-is-idchar-requires c κs = search needs
+-- the byte's class, and what the table says of it
+module _ (c : tie.After-class) where
+  class : ℕ
+  class = let a = c .before .args in getD (a .t .now) (a .b) 0
+
+  says : beginsBy class ≡ family (c .before .args .b)
+  unfolding class
+  says = ap (λ (r : Answers). r .begins) (c .before .pre .entry _ (search needs))
+
+  -- a class n
+  is : (n : ℕ) → class ≡ n → beginsBy n ≡ family (c .before .args .b)
+  is n e = ap beginsBy (sym e) ∙ says
+
+element-copy-out-class : tie.Need-element-copy-out-class
+element-copy-out-class c = search needs
 
 returns : tie.Need-returns
-returns c = (sym (family-idchar _ (sym (c .before .is-idchar .ensures) ∙ c .if1 .taken)))
-
-is-ws-requires : tie.Need-is-ws-requires
-is-ws-requires c κs = search needs
+unfolding class
+returns c = sym (begins-run _ (c .if1 .taken)) ∙ says (c .before)
 
 returns-2 : tie.Need-returns-2
-returns-2 c = (sym (family-space _ (sym (c .before .is-ws .ensures) ∙ c .if2 .taken)))
-
-is-punctuation-requires : tie.Need-is-punctuation-requires
-is-punctuation-requires c κs = search needs
+unfolding class
+returns-2 c = is (c .before .before) 1 (c .match .keys1)
 
 returns-3 : tie.Need-returns-3
-unfolding family space idchar punctuation between has
-returns-3 c = ap family (sym (c .match .keys1))
+unfolding class
+returns-3 c = is (c .before .before) 4 (c .match .keys2)
 
 returns-4 : tie.Need-returns-4
-unfolding family space idchar punctuation between has
-returns-4 c = ap family (sym (c .match .keys2))
+unfolding class
+returns-4 c = is (c .before .before) 5 (c .match .keys3)
 
 returns-5 : tie.Need-returns-5
-unfolding family space idchar punctuation between has
-returns-5 c = ap family (sym (c .match .keys3))
+unfolding class
+returns-5 c = is (c .before .before) 6 (c .match .keys4)
 
 returns-6 : tie.Need-returns-6
-unfolding family space idchar punctuation between has
-returns-6 c = ap family (sym (c .match .keys4))
+unfolding class
+returns-6 c = is (c .before .before) 7 (c .match .keys5)
 
 returns-7 : tie.Need-returns-7
-returns-7 c = let m = c .before .before .match .rest in
-    (sym (family-single _ (sym (c .before .before .before .before .is-ws .ensures) ∙ c .before .before .before .if2 .left)
-    (m .0 .0 .0 .1) (m .0 .0 .1) (m .0 .1) (sym (c .before .is-punctuation .ensures) ∙ c .if3 .taken)))
+unfolding class
+returns-7 c = is (c .before .before) 3 (c .match .keys6)
 
 returns-8 : tie.Need-returns-8
-returns-8 c = let m = c .before .before .match .rest in
-    (sym (family-none _ (sym (c .before .before .before .before .is-ws .ensures) ∙ c .before .before .before .if2 .left)
-    (m .0 .0 .0 .1) (m .0 .0 .1) (m .0 .1) (sym (c .before .is-punctuation .ensures) ∙ c .if3 .left)
-    (sym (c .before .before .before .before .before .before .is-idchar .ensures)
-    ∙ c .before .before .before .before .before .if1 .left) (m .1)))
+unfolding class
+returns-8 c =
+    let m = c .match .rest in
+    sym (begins-other _ (c .before .if1 .left) (m .0 .0 .0 .0 .0 .1) (m .0 .0 .0 .0 .1) (m .0 .0 .0 .1) (m .0 .0 .1) (m .0 .1) (m .1))
+    ∙ says (c .before .before)
 
 pub begins-spec : {M : Type 1} → statement M
 begins-spec =
     tie.close
     (tie.spec
-    is-idchar-requires
+    element-copy-out-class
     returns
-    is-ws-requires
     returns-2
-    is-punctuation-requires
     returns-3
     returns-4
     returns-5

@@ -1,6 +1,7 @@
--- The second mark of an entry is `idchar`. Assumes nothing.
+-- The answer of the byte's class to `idchar`. Assumes nothing.
+use mathlib.Core.Path.{ap}
 use borrow.Author.Needs.{needs}
-use Rattle.lex_classes.proofs.TableLaws.{class-idchar}
+use Rattle.lex_classes.specs.Table.{Answers}
 use Rattle.lex_classes.proofs.is_idchar.Statement.{statement}
 use Rattle.lex_classes.proofs.is_idchar.Tie as tie
 
@@ -8,7 +9,7 @@ element-copy-out-result : tie.Need-element-copy-out-result
 element-copy-out-result c = search needs
 
 returns : tie.Need-returns
-returns c = class-idchar _ _ (c .before .pre) (search needs)
+returns c = ap (λ (r : Answers). r .idchar) (c .before .pre .entry _ (search needs))
 
 pub is-idchar-spec : {M : Type 1} → statement M
 is-idchar-spec = tie.close (tie.spec element-copy-out-result returns)
