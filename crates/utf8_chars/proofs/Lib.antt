@@ -1,3 +1,4 @@
+pub mod CharBytes
 pub mod DecodeLaws
 mod BoundaryLaws
 mod ScalarLaws

@@ -95,5 +95,6 @@ low-right s i h m a b =
           };
     }
 
-pub right-join : (s : List ℕ) (a b e : ℕ) → Right s a b → Right s b e → Right s a e
-right-join s a b e p q m h k = ⊎-elim (λ l. p m h l) (λ l. q m l k) (below m b)
+-- of two runs the second may begin inside the first
+pub right-join : (s : List ℕ) (a b from e : ℕ) → from ≤ b → Right s a b → Right s from e → Right s a e
+right-join s a b from e l p q m h k = ⊎-elim (λ x. p m h x) (λ x. q m (omega arith) k) (below m b)

@@ -10,9 +10,11 @@ use lib.ListN.{length, getD, drop}
 use Rattle.wat.specs.Utf8Model.{scan, checked}
 use Rattle.wat.proofs.Basics.{below}
 use Rattle.utf8_chars.specs.Boundary.{Continues}
-use Rattle.utf8_check.specs.Following.{Second, Follows, Right, Begins, Resumes}
+use Rattle.utf8_chars.specs.Fronts.{Second}
+use Rattle.utf8_check.specs.Following.{Follows, Low, Right, Begins, Resumes}
 use Rattle.utf8_check.proofs.ScanLaws.{scan-ascii}
-use Rattle.utf8_check.proofs.PassLaws.{char-2, char-3, char-4, pass-2, pass-3, pass-4}
+use Rattle.utf8_chars.proofs.CharBytes.{char-2, char-3, char-4}
+use Rattle.utf8_check.proofs.PassLaws.{pass-2, pass-3, pass-4}
 
 -- the bytes r, q and p stand before a place, and the last k of them, from place i on, begin a character that is not whole yet
 
@@ -172,3 +174,15 @@ module _ (s : List ℕ) (i : ℕ) (h : Begins (getD s 0 0) (getD s 1 0) (getD s 
 pub from-start : (s : List ℕ) → Resumes s 0
 unfolding checked
 from-start s = record { within = omega arith; same = refl }
+
+-- past ASCII bytes
+
+pub past-ascii : (s : List ℕ) (i : ℕ) → i < length s → getD s i 0 < 0x80 → Resumes s i → Resumes s (i + 1)
+past-ascii s i h l r = record { within = omega arith; same = sym (scan-ascii s i h l) ∙ r .same }
+
+pub past-low : (s : List ℕ) (i n to : ℕ) → to ≡ i + n → to ≤ length s → Low s i to → Resumes s i → Resumes s to
+past-low s i zero to e h l r = let here : to ≡ i = omega arith in rw here r
+past-low s i (suc n) to e h l r =
+    let next : to ≡ i + n + 1 = omega arith in
+    let before = past-low s i n (i + n) refl (omega arith) (λ m a b. l m a (omega arith)) r in
+    rw next (past-ascii s (i + n) (omega arith) (l (i + n) (omega arith) (omega arith)) before)

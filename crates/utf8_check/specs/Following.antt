@@ -6,13 +6,7 @@ use mathlib.Core.List.{List}
 use lib.ListN.{length, getD, drop}
 use Rattle.wat.specs.Utf8Model.{scan, checked}
 use Rattle.utf8_chars.specs.Boundary.{Continues}
-
--- the four first bytes whose second byte has a range of its own
-pub record Second (a b : ℕ) : Type 0 where
-  pub after-E0 : a ≡ 0xE0 → 0xA0 ≤ b
-  pub after-ED : a ≡ 0xED → b ≤ 0x9F
-  pub after-F0 : a ≡ 0xF0 → 0x90 ≤ b
-  pub after-F4 : a ≡ 0xF4 → b ≤ 0x8F
+use Rattle.utf8_chars.specs.Fronts.{Second}
 
 -- b continues a character exactly if n is not 0
 pub record Placed (n b : ℕ) : Type 0 where

@@ -1,6 +1,6 @@
 // The check by blocks of 64 bytes: each byte is held against the three before it, by a rule without branches, which
-// LLVM turns into vector code. It passes over what is right, ASCII or not; what is wrong, and the end of the text, it
-// leaves to the check by characters.
+// LLVM turns into vector code. It passes over what is right, ASCII or not; of a text too short for that, over ASCII.
+// What is left, and what is wrong, is for the check by characters.
 
 ghost use mathlib.Core.Path.{_≡_};
 ghost use Prim.Native.Nat.{_+_, _-_, _≤_};
@@ -73,14 +73,14 @@ fn wrong(r: u8, q: u8, p: u8, b: u8) -> u8
     misplaced(n, b) | above(least(p), b) | above(b, greatest(p)) | unused(b)
 }
 
-// 0 if 64 bytes are ASCII.
-fn high_in(s: &[u8], from: usize) -> u8
-    requires { ⌜ from + 64 ≤ length (now s) ⌝ }
-    ensures { λ r. ⌜ (r ≡ 0 → Low (now (s .entry)) from (from + 64)) ⌝ }
+// 0 if n bytes are ASCII. The callers name n, so that LLVM knows it.
+fn high_in(s: &[u8], from: usize, n: usize) -> u8
+    requires { ⌜ from + n ≤ length (now s) ⌝ }
+    ensures { λ r. ⌜ (r ≡ 0 → Low (now (s .entry)) from (from + n)) ⌝ }
 {
     let mut all: u8 = 0;
     let mut k: usize = 0;
-    while k < 64 {
+    while k < n {
         all |= above(s[from + k], 0x7F);
         k += 1;
     }
@@ -103,14 +103,14 @@ fn wrong_in(s: &[u8], from: usize) -> u8
 }
 
 // A place up to which each third byte further on stands right. Of 64 ASCII bytes the last three are looked at again,
-// before the next block.
+// before the next block; and of the last 67 bytes of the text those again that a block has passed.
 fn right_to(s: &[u8]) -> usize
-    requires { ⌜ 3 ≤ length (now s) ⌝ }
+    requires { ⌜ 67 ≤ length (now s) ⌝ }
     ensures { λ r. ⌜ (r + 3 ≤ length (now (s .entry))) × Right (now (s .entry)) 0 r ⌝ }
 {
     let mut i: usize = 0;
     while 67 <= s.len() - i {
-        if high_in(s, i) == 0 {
+        if high_in(s, i, 64) == 0 {
             i += 61;
         } else {
             if wrong_in(s, i) != 0 {
@@ -118,6 +118,13 @@ fn right_to(s: &[u8]) -> usize
             }
             i += 64;
         }
+    }
+    let last = s.len() - 67;
+    if high_in(s, last, 64) == 0 {
+        return last + 61;
+    }
+    if wrong_in(s, last) == 0 {
+        return last + 64;
     }
     i
 }
@@ -140,12 +147,34 @@ fn start_before(s: &[u8], i: usize) -> usize
     i + 3
 }
 
+// A place up to which all is ASCII. Where fewer than 16 bytes are left, the last 16 of the text are looked at, some of
+// them again.
+fn ascii_to(s: &[u8]) -> usize
+    ensures { λ r. ⌜ Resumes (now (s .entry)) r ⌝ }
+{
+    if s.len() < 16 {
+        return 0;
+    }
+    let mut i: usize = 0;
+    while 16 <= s.len() - i {
+        if high_in(s, i, 16) != 0 {
+            return i;
+        }
+        i += 16;
+    }
+    let last = s.len() - 16;
+    if high_in(s, last, 16) == 0 {
+        return s.len();
+    }
+    i
+}
+
 // A place from which on the check by characters gives the answer for the whole text.
 pub fn pass(s: &[u8]) -> usize
     ensures { λ r. ⌜ Resumes (now (s .entry)) r ⌝ }
 {
     if s.len() < 67 {
-        return 0;
+        return ascii_to(s);
     }
     let a = s[0];
     let b = s[1];

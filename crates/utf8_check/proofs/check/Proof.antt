@@ -7,7 +7,8 @@ use lib.ListN.{length, drop, length-drop}
 use borrow.Author.Needs.{needs}
 use Rattle.utf8_check.specs.Following.{Resumes}
 use Rattle.utf8_chars.proofs.DecodeLaws.{front-char}
-use Rattle.utf8_check.proofs.ScanLaws.{scan-whole, scan-ascii, scan-wrong, scan-cut, scan-end, says-of-model}
+use Rattle.utf8_check.proofs.ScanLaws.{scan-whole, scan-wrong, scan-cut, scan-end, says-of-model}
+use Rattle.utf8_check.proofs.ResumeLaws.{past-ascii}
 use Rattle.utf8_check.proofs.check.Statement.{statement}
 use Rattle.utf8_check.proofs.check.Tie as tie
 
@@ -67,9 +68,7 @@ loop-less c = omega arith
 loop-again : tie.Need-loop-again Inv-loop μ-loop
 loop-again c =
     let r = round (c .before) in
-    let l = r .loop in
-    let ascii = scan-ascii (start r .args .s .now) (l .i) (omega arith) (c .if1 .taken) in
-    record { within = omega arith; same = sym ascii ∙ l .inv .same }
+    past-ascii (start r .args .s .now) (r .loop .i) (omega arith) (c .if1 .taken) (r .loop .inv)
 
 front-at-requires : tie.Need-front-at-requires Inv-loop μ-loop
 front-at-requires c κs = omega arith

@@ -9,10 +9,10 @@ use Rattle.utf8_check.proofs.blocks.high_in.Statement.{statement}
 use Rattle.utf8_check.proofs.blocks.high_in.Tie as tie
 
 abbrev Inv-loop : tie.InvT-loop
-Inv-loop s from all₀ k₀ all k = (k ≤ 64) × (all ≡ 0 → Low s from (from + k))
+Inv-loop s from n all₀ k₀ all k = (k ≤ n) × (all ≡ 0 → Low s from (from + k))
 
 abbrev μ-loop : tie.MeasureT-loop
-μ-loop s from all₀ k₀ all k = 64 - k
+μ-loop s from n all₀ k₀ all k = n - k
 
 -- the places: the function's start, and where the loop begins a round
 abbrev start : tie.At-loop Inv-loop μ-loop → tie.Start Inv-loop μ-loop

@@ -1,12 +1,16 @@
--- `utf8_check::blocks::pass` meets its contract: the first three bytes stand right, and then the blocks. Assumes nothing.
+-- `utf8_check::blocks::pass` meets its contract: the first three bytes stand right, and then the blocks; of a short text, ASCII. Assumes
+-- nothing.
 use native.Mathlib.Omega.{arith}
 use Rattle.utf8_check.proofs.FollowingLaws.{begins-by}
 use Rattle.utf8_check.proofs.ResumeLaws.{from-start}
 use Rattle.utf8_check.proofs.blocks.pass.Statement.{statement}
 use Rattle.utf8_check.proofs.blocks.pass.Tie as tie
 
+ascii-to-requires : tie.Need-ascii-to-requires
+ascii-to-requires c κs = omega arith
+
 returns : tie.Need-returns
-returns c = from-start _
+returns c = c .ascii-to .ensures
 
 shared-slice-read-a : tie.Need-shared-slice-read-a
 shared-slice-read-a c = omega arith
@@ -47,6 +51,7 @@ pub pass-spec : {M : Type 1} → statement M
 pass-spec =
     tie.close
     (tie.spec
+    ascii-to-requires
     returns
     shared-slice-read-a
     shared-slice-read-b
