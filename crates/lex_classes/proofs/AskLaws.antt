@@ -2,14 +2,14 @@
 use Prim.Native.Nat.{ℕ, zero, suc, _+_, _-_, _*_, _/_, _%_, _≤_, _<_}
 use mathlib.Core.Path.{_≡_, refl, ap, _∙_}
 use mathlib.Core.Logic.{⊎-elim}
-use mathlib.Core.Bool.{Bool, true, false}
+use mathlib.Core.Bool.{Bool, true, false, _||_, or-assoc, or-false}
 use mathlib.Core.Option.{none, some}
 use mathlib.Core.List.{List, [], _∷_}
 use native.Mathlib.Omega.{arith}
 use lib.Dec.{eqb}
 use borrow.Author.Tests.{eqb-true, eqb-false, ne-eqb, lt-ltb, le-ltb, le-leb, lt-leb}
 use Rattle.wat.specs.Bytes.{byte, between, has}
-use Rattle.wat.specs.Chars.{control}
+use Rattle.wat.specs.Chars.{control, space}
 use Rattle.wat.specs.declared.Family.the-variants.{Run as run, Other as other}
 use Rattle.wat.specs.Numbers.{digit}
 use Rattle.wat.specs.StringModel.{hexOf}
@@ -29,6 +29,11 @@ pub has-not : (x : ℕ) (ys : List ℕ) → Apart x ys → has x ys ≡ false
 unfolding has
 has-not x [] a = refl
 has-not x (y ∷ ys) a = rw (ne-eqb y x (a .0), has-not x ys (a .1))
+
+-- white space, one comparison after the other
+pub space-or : (b : ℕ) → space b ≡ ((eqb (byte " ") b || eqb (byte "\t") b) || eqb (byte "\n") b) || eqb (byte "\r") b
+unfolding space has
+space-or b = rw (or-false, or-assoc, or-assoc)
 
 -- n numbers from lo on all pass a test
 abbrev pub all-pass : (ℕ → Bool) → ℕ → ℕ → Bool

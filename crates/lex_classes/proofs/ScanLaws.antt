@@ -5,7 +5,7 @@ use mathlib.Core.Bool.{Bool, true, false, not}
 use mathlib.Core.List.{List, [], _∷_, _++_}
 use native.Mathlib.Omega.{arith}
 use lib.ListN.{length, getD, take, drop, length-drop, take-append-drop, drop-of-length-le}
-use lib.Seq.{drop-cons, drop-drop, length-take-le}
+use lib.Seq.{drop-cons, drop-drop, getD-drop, length-take-le}
 use Rattle.wat.specs.Bytes.{Each, none, next}
 use Rattle.wat.specs.LexModel.{count}
 use Rattle.lex_classes.specs.Scan.{Scanned, Passed}
@@ -26,29 +26,21 @@ unfolding count
 count-stop test true x t e = rw (e, count)
 count-stop test false x t e = rw (e, count)
 
-count-front : (test : ℕ → Bool) (b : Bool) (n : ℕ) (s : List ℕ) → n ≤ count test b s → Each test b (take n s)
+-- what a scan passes
+count-at : (test : ℕ → Bool) (b : Bool) (s : List ℕ) (k : ℕ) → k < count test b s → test (getD s k 0) ≡ b
 unfolding count
-count-front test b zero s h = none
-count-front test b (suc n) [] h = absurd (omega arith)
-count-front test b (suc n) (x ∷ s) h = go b (test x) refl h (count-front test b n s)
+count-at test b [] k h = absurd (omega arith)
+count-at test b (x ∷ s) k h = go b (test x) refl k h (count-at test b s)
   where
-    go : (b c : Bool) → test x ≡ c → suc n ≤ count test b (x ∷ s) → (n ≤ count test b s → Each test b (take n s))
-        → Each test b (x ∷ take n s)
-    go true true e h ih = next e (ih (let q : suc n ≤ suc (count test true s) = rw (e, count) at h in omega arith))
-    go true false e h ih = absurd (let q : suc n ≤ 0 = rw (e, count) at h in omega arith)
-    go false true e h ih = absurd (let q : suc n ≤ 0 = rw (e, count) at h in omega arith)
-    go false false e h ih = next e (ih (let q : suc n ≤ suc (count test false s) = rw (e, count) at h in omega arith))
-
-count-most : (test : ℕ → Bool) (b : Bool) (s : List ℕ) → count test b s ≤ length s
-unfolding count
-count-most test b [] = omega arith
-count-most test b (x ∷ s) = go b (test x) refl (count-most test b s)
-  where
-    go : (b c : Bool) → test x ≡ c → count test b s ≤ length s → count test b (x ∷ s) ≤ suc (length s)
-    go true true e h = rw (e, count) (omega arith)
-    go true false e h = rw (e, count) (omega arith)
-    go false true e h = rw (e, count) (omega arith)
-    go false false e h = rw (e, count) (omega arith)
+    go :
+        (b c : Bool) → test x ≡ c → (k : ℕ) → k < count test b (x ∷ s) → ((j : ℕ) → j < count test b s → test (getD s j 0) ≡ b)
+        → test (getD (x ∷ s) k 0) ≡ b
+    go true true e zero h ih = e
+    go true true e (suc k) h ih = ih k (let q : suc k < suc (count test true s) = rw (e, count) at h in omega arith)
+    go true false e k h ih = absurd (let q : k < 0 = rw (e, count) at h in omega arith)
+    go false true e k h ih = absurd (let q : k < 0 = rw (e, count) at h in omega arith)
+    go false false e zero h ih = e
+    go false false e (suc k) h ih = ih k (let q : suc k < suc (count test false s) = rw (e, count) at h in omega arith)
 
 -- what stops a scan
 pub count-next : (test : ℕ → Bool) (b : Bool) (s : List ℕ) → count test b s < length s
@@ -65,13 +57,6 @@ count-next test b (x ∷ s) h = go b (test x) refl h (count-next test b s)
     go true false e h ih = rw (e, count) e
     go false true e h ih = rw (e, count) e
     go false false e h ih = rw (e, count) (ih (let q : suc (count test false s) < suc (length s) = rw (e, count) at h in omega arith))
-
--- the bytes between two places, each of which passes the test as `b`
-pub record Between (test : ℕ → Bool) (b : Bool) (s : List ℕ) (at i : ℕ) : Type 0 where
-  pub part : List ℕ
-  pub each : Each test b part
-  pub long : at + length part ≡ i
-  pub seam : drop at s ≡ part ++ drop i s
 
 module _ (test : ℕ → Bool) (b : Bool) (s : List ℕ) (at : ℕ) where
   pub passed-none : at ≤ length s → Passed test b s at at
@@ -102,23 +87,24 @@ module _ (test : ℕ → Bool) (b : Bool) (s : List ℕ) (at : ℕ) where
       let z : count test b (drop i s) ≡ 0 = ap (count test b) (drop-of-length-le s h) in
       record { end = omega (arith, p .same); within = p .within }
 
-  -- the scan is at its end
-  pub passed-all : (i : ℕ) → Passed test b s at i → Passed test b s at (i + count test b (drop i s))
-  passed-all i p =
-      let n = count test b (drop i s) in
-      let l = count-most test b (drop i s) in
-      passed-more i n p (omega (arith, length-drop i s, p .within)) (count-front test b n (drop i s) (omega arith))
+-- what is known of the bytes before a scan's answer, and of the one at it
+module _ (test : ℕ → Bool) (b : Bool) (s : List ℕ) (at r : ℕ) (p : Scanned test b s at r) where
+  pub scanned-at : (k : ℕ) → at ≤ k → k < r → test (getD s k 0) ≡ b
+  scanned-at k h l =
+      let n = k - at in
+      let q : k ≡ at + n = omega arith in
+      ap (λ (m : ℕ). test (getD s m 0)) q ∙ ap test (sym (getD-drop at s n 0))
+      ∙ count-at test b (drop at s) n (omega (arith, p .end))
 
-  pub passed-between : (i : ℕ) → Passed test b s at i → Between test b s at i
-  passed-between i p =
-      let n = i - at in
-      let w = take n (drop at s) in
-      let l : length w ≡ n = length-take-le n (drop at s) (omega (arith, length-drop at s, p .on, p .within)) in
-      let q : at + n ≡ i = omega (arith, p .on) in
-      let r : drop n (drop at s) ≡ drop i s = drop-drop n at s ∙ ap (λ (m : ℕ). drop m s) q in
-      record {
-        part = w;
-        each = count-front test b n (drop at s) (omega (arith, p .same));
-        long = omega arith;
-        seam = sym (take-append-drop n (drop at s)) ∙ ap (λ (z : List ℕ). w ++ z) r;
-      }
+  pub scanned-next : r < length s → test (getD s r 0) ≡ not b
+  scanned-next h =
+      ap (λ (m : ℕ). test (getD s m 0)) (p .end) ∙ ap test (sym (getD-drop at s (count test b (drop at s)) 0))
+      ∙ count-next test b (drop at s) (omega (arith, length-drop at s, p .end))
+
+-- from i on, by another scan
+module _ (test : ℕ → Bool) (b : Bool) (s : List ℕ) (at i r : ℕ) (p : Passed test b s at i) where
+  pub passed-then : Passed test b s i r → Passed test b s at r
+  passed-then q = record { on = omega (arith, p .on, q .on); same = q .same ∙ p .same; within = q .within }
+
+  pub scanned-then : Scanned test b s i r → Scanned test b s at r
+  scanned-then q = record { end = q .end ∙ p .same; within = q .within }

@@ -2,16 +2,16 @@
 // Callers ask for a class by a function, to which they lend the one table: so the table can change and no caller does.
 
 ghost use mathlib.Core.Path.{_≡_};
-ghost use mathlib.Core.Bool.{true, false};
+ghost use mathlib.Core.Bool.{true, false, not};
 ghost use Prim.Native.Nat.{_+_, _*_, _/_, _%_, _≤_};
-ghost use lib.ListN.{length};
+ghost use lib.ListN.{length, getD};
 ghost use Rattle.wat.specs.Numbers.{digit};
 ghost use Rattle.wat.specs.Chars.{idchar, space, letter, isScalar, control, confusing};
 ghost use Rattle.wat.specs.LexModel.{family};
 ghost use Rattle.wat.specs.StringModel.{hexOf};
 ghost use Rattle.lex_classes.specs.Table.{Classes};
-ghost use Rattle.lex_classes.specs.Ask.{digitOf, raw};
-ghost use Rattle.lex_classes.specs.Scan.{Scanned};
+ghost use Rattle.lex_classes.specs.Ask.{digitOf, raw, confusingBytes};
+ghost use Rattle.lex_classes.specs.Scan.{Scanned, First, placed};
 use wat::Family;
 
 // What a byte means to the lexer is its class, and this is the one table of them: every question about a byte is
@@ -192,14 +192,61 @@ pub fn is_confusing_unicode(c: u32) -> bool
     }
 }
 
-// https://webassembly.github.io/spec/core/text/lexical.html#white-space
-// The place behind the white space from `at` on: four bytes that stand in UTF-8 for themselves alone.
-pub fn skip_ws(s: &[u8], at: usize, t: &[u8; 256]) -> usize
+// Whether three bytes are such a character: with no branch, so that a loop over this becomes vector code.
+pub fn is_confusing_bytes(b: u8, c: u8, d: u8) -> bool
+    ensures { λ r. ⌜ r ≡ confusingBytes b c d ⌝ }
+{
+    let after_80 = ((0xaa <= d) & (d <= 0xae)) & (d != 0xac);
+    let after_81 = ((0xa6 <= d) & (d <= 0xa9)) | (d == 0xac);
+    (b == 0xe2) & (((c == 0x80) & after_80) | ((c == 0x81) & after_81))
+}
+
+// White space by comparisons, which become vector code where a lookup does not.
+fn is_space(b: u8) -> bool
+    ensures { λ r. ⌜ r ≡ space b ⌝ }
+{
+    (b' ' == b) | (b'\t' == b) | (b'\n' == b) | (b'\r' == b)
+}
+
+// k, or 32 for white space.
+fn unless_space(b: u8, k: u8) -> u8
+    ensures { λ r. ⌜ r ≡ placed (not (space b)) 32 k ⌝ }
+{
+    if is_space(b) { 32 } else { k }
+}
+
+// How many of the 32 bytes from i on come before the first that is no white space: the least place of such a byte. No
+// branch depends on the bytes, and LLVM makes vector code of the loop.
+fn spaces32(s: &[u8], i: usize) -> usize
+    requires { ⌜ i + 32 ≤ length (now s) ⌝ }
+    ensures { λ r. ⌜ First (λ k. not (space (getD (now (s .entry)) k 0))) i 32 r ⌝ }
+{
+    let mut m: u8 = 32;
+    let mut k: usize = 0;
+    while k < 32 {
+        let v = unless_space(s[i + k], k as u8);
+        if v < m {
+            m = v;
+        }
+        k += 1;
+    }
+    m as usize
+}
+
+// As `skip_ws`, where much white space is to be expected: 32 bytes at a time.
+fn long_ws(s: &[u8], at: usize, t: &[u8; 256]) -> usize
     requires { ⌜ at ≤ length (now s) ⌝ }
     requires { ⌜ Classes (now t) ⌝ }
     ensures { λ r. ⌜ Scanned space true (now (s .entry)) at r ⌝ }
 {
     let mut i = at;
+    while 32 <= s.len() - i {
+        let n = spaces32(s, i);
+        if n < 32 {
+            return i + n;
+        }
+        i += 32;
+    }
     while i < s.len() {
         if !is_ws(t, s[i]) {
             return i;
@@ -209,8 +256,51 @@ pub fn skip_ws(s: &[u8], at: usize, t: &[u8; 256]) -> usize
     i
 }
 
-// The place behind the idchars from `at` on.
+// https://webassembly.github.io/spec/core/text/lexical.html#white-space
+// The place behind the white space from `at` on: four bytes that stand in UTF-8 for themselves alone. Most runs are
+// short: the first eight bytes are looked at one by one, in a loop of fixed length, which LLVM unrolls, so that each
+// step has a branch of its own for the processor to foresee.
+pub fn skip_ws(s: &[u8], at: usize, t: &[u8; 256]) -> usize
+    requires { ⌜ at ≤ length (now s) ⌝ }
+    requires { ⌜ Classes (now t) ⌝ }
+    ensures { λ r. ⌜ Scanned space true (now (s .entry)) at r ⌝ }
+{
+    if s.len() - at < 8 {
+        return long_ws(s, at, t);
+    }
+    let near = at + 8;
+    let mut i = at;
+    while i < near {
+        if !is_ws(t, s[i]) {
+            return i;
+        }
+        i += 1;
+    }
+    long_ws(s, i, t)
+}
+
+// The place behind the idchars from `at` on: the first eight bytes as in `skip_ws`.
 pub fn idchars_end(s: &[u8], at: usize, t: &[u8; 256]) -> usize
+    requires { ⌜ at ≤ length (now s) ⌝ }
+    requires { ⌜ Classes (now t) ⌝ }
+    ensures { λ r. ⌜ Scanned idchar true (now (s .entry)) at r ⌝ }
+{
+    if s.len() - at < 8 {
+        return long_word(s, at, t);
+    }
+    let near = at + 8;
+    let mut i = at;
+    while i < near {
+        if !is_idchar(t, s[i]) {
+            return i;
+        }
+        i += 1;
+    }
+    long_word(s, i, t)
+}
+
+// As `idchars_end`, for a word of any length.
+fn long_word(s: &[u8], at: usize, t: &[u8; 256]) -> usize
     requires { ⌜ at ≤ length (now s) ⌝ }
     requires { ⌜ Classes (now t) ⌝ }
     ensures { λ r. ⌜ Scanned idchar true (now (s .entry)) at r ⌝ }
@@ -218,6 +308,38 @@ pub fn idchars_end(s: &[u8], at: usize, t: &[u8; 256]) -> usize
     let mut i = at;
     while i < s.len() {
         if !is_idchar(t, s[i]) {
+            return i;
+        }
+        i += 1;
+    }
+    i
+}
+
+// The place behind the decimal digits from `at` on.
+pub fn digits_end(s: &[u8], at: usize, t: &[u8; 256]) -> usize
+    requires { ⌜ at ≤ length (now s) ⌝ }
+    requires { ⌜ Classes (now t) ⌝ }
+    ensures { λ r. ⌜ Scanned (digit false) true (now (s .entry)) at r ⌝ }
+{
+    let mut i = at;
+    while i < s.len() {
+        if !is_digit(t, false, s[i]) {
+            return i;
+        }
+        i += 1;
+    }
+    i
+}
+
+// The place behind the raw characters from `at` on, of those that are ASCII.
+pub fn raw_end(s: &[u8], at: usize, t: &[u8; 256]) -> usize
+    requires { ⌜ at ≤ length (now s) ⌝ }
+    requires { ⌜ Classes (now t) ⌝ }
+    ensures { λ r. ⌜ Scanned raw true (now (s .entry)) at r ⌝ }
+{
+    let mut i = at;
+    while i < s.len() {
+        if !is_raw(t, s[i]) {
             return i;
         }
         i += 1;

@@ -1,6 +1,6 @@
 -- Hidden characters: each begins with the byte 0xE2, which in a well-formed text stands at the start of a character.
 -- Assumes nothing.
-use Prim.Native.Nat.{ℕ, zero, suc, _+_, _/_, _%_, _≤_, _<_}
+use Prim.Native.Nat.{ℕ, zero, suc, _+_, _≤_, _<_}
 use mathlib.Core.Path.{_≡_, refl, sym, ap, _∙_}
 use mathlib.Core.Bool.{Bool, true, false, or-self}
 use mathlib.Core.List.{List, [], _∷_, _++_}
@@ -8,25 +8,24 @@ use native.Mathlib.Omega.{arith}
 use native.Mathlib.Nat.{add-assoc, zero-add}
 use lib.Dec.{leb, eqb}
 use lib.ListN.{length, getD, take, length-append}
-use lib.Seq.{take-at}
-use borrow.Author.Tests.{leb-true, eqb-true, eqb-false, ne-eqb, le-ltb, lt-ltb}
+use lib.Seq.{take-at, getD-take}
+use borrow.Author.Tests.{leb-true, eqb-true, eqb-false, ne-eqb}
 use Rattle.wat.specs.Bytes.{Each, none, next}
 use Rattle.wat.specs.Utf8.{Range, _‥_, table, Fits, Char, scalar, WellFormed, empty, more}
 use Rattle.wat.specs.Utf8Model.{pick}
 use Rattle.wat.specs.Chars.{confusing}
-use Rattle.wat.specs.StringModel.{encode, char}
+use Rattle.wat.specs.StringModel.{char}
 use Rattle.wat.specs.declared.Hidden.{Hidden}
 use Rattle.wat.specs.declared.Hidden.the-variants.{Clear as clear, Found as found}
 use Rattle.wat.specs.LexModel.{beyond, hiddenBy, hidden}
 use Rattle.wat.proofs.Utf8Rows.{pick-both, char-full, char-known, fits-length}
-use Rattle.wat.proofs.Basics.{never, has-every}
-use Rattle.wat.proofs.ScalarValues.{All, all-listed, char-right}
+use Rattle.wat.proofs.Basics.{never}
+use Rattle.wat.proofs.ScalarValues.{All, all-listed}
 use Rattle.wat.proofs.Scalars.{peek-char, peek-nothing}
-use Rattle.lex_comments.specs.Find.{among}
+use Rattle.lex_classes.specs.Ask.{confusingBytes}
+use Rattle.lex_classes.proofs.ConfusingLaws.{unconfusing, unled}
+use Rattle.lex_comments.specs.Confusing.{lead}
 use Rattle.lex_comments.proofs.FindLaws.{among-or}
-
-abbrev pub lead : ℕ → Bool
-lead = among 0xE2 0xE2
 
 lead-eqb : (x : ℕ) → lead x ≡ eqb 0xE2 x
 lead-eqb x = among-or 0xE2 0xE2 x ∙ or-self (eqb 0xE2 x)
@@ -37,7 +36,7 @@ lead-is x e = sym (eqb-true 0xE2 x (sym (lead-eqb x) ∙ e))
 pub lead-not : (x : ℕ) → lead x ≡ false → x ≡ 0xE2 → ⊥
 lead-not x e q = eqb-false 0xE2 x (sym (lead-eqb x) ∙ e) (sym q)
 
-not-lead : (x : ℕ) → (x ≡ 0xE2 → ⊥) → lead x ≡ false
+pub not-lead : (x : ℕ) → (x ≡ 0xE2 → ⊥) → lead x ≡ false
 not-lead x n = lead-eqb x ∙ ne-eqb 0xE2 x (λ q. n (sym q))
 
 -- ---- the bytes of a character
@@ -73,24 +72,30 @@ pub char-led : {c : List ℕ} → Char (0xE2 ∷ c) → length c ≡ 2
 unfolding table
 char-led {c} ch = fits-length (char-known 0xE2 c (0x80 ‥ 0xBF ∷ 0x80 ‥ 0xBF ∷ []) refl ch)
 
-confusing-span : (n : ℕ) → confusing n ≡ true → (0x2000 ≤ n) × (n < 0x3000)
-unfolding confusing
-confusing-span n e = (has-every (λ y. 0x2000 ≤ y) _ n (omega arith) e, has-every (λ y. y < 0x3000) _ n (omega arith) e)
+pub led-front : (x : ℕ) (c u : List ℕ) → Char (x ∷ c) → x ≡ 0xE2 → take 3 (x ∷ (c ++ u)) ≡ x ∷ c
+led-front x c u ch e = let f : length c ≡ 2 = char-led (rw e at ch) in take-at (x ∷ c) u 3 (omega arith)
 
--- a confusing character begins with 0xE2
+-- ---- the bytes of the nine
+
 char-unled : {x : ℕ} {c : List ℕ} → Char (x ∷ c) → (x ≡ 0xE2 → ⊥) → confusing (scalar (x ∷ c)) ≡ false
-unfolding encode
-char-unled {x} {c} ch n = go (confusing (scalar (x ∷ c))) refl
+char-unled {x} {c} ch n = unconfusing (x ∷ c) ch (unled x (getD c 0 0) (getD c 1 0) n)
+
+pub unled-hides : (b c d : ℕ) → lead b ≡ false → confusingBytes b c d ≡ false
+unled-hides b c d e = unled b c d (lead-not b e)
+
+pub hides-led : (b c d : ℕ) → confusingBytes b c d ≡ true → lead b ≡ true
+hides-led b c d h = go (lead b) refl
   where
-    go : (b : Bool) → confusing (scalar (x ∷ c)) ≡ b → confusing (scalar (x ∷ c)) ≡ false
-    go false e = e
-    go true e =
-        let m = scalar (x ∷ c) in
-        let w = confusing-span m e in
-        let f : encode m ≡ (0xE0 + m / 0x1000) ∷ (0x80 + m / 0x40 % 0x40) ∷ (0x80 + m % 0x40) ∷ [] =
-        rw (le-ltb m 0x80 (omega arith), le-ltb m 0x800 (omega arith), lt-ltb m 0x10000 (omega arith)) in
-        let q : x ≡ 0xE0 + m / 0x1000 = ap (λ (l : List ℕ). getD l 0 0) (sym (char-right (x ∷ c) ch .0) ∙ f) in
-        absurd (n (omega arith))
+    go : (x : Bool) → lead b ≡ x → lead b ≡ true
+    go true e = e
+    go false e = absurd (never h (unled-hides b c d e))
+
+-- a character of which the bytes say that it is none of them
+pub led-plain : (t : List ℕ) → Char (0xE2 ∷ take 2 t) → confusingBytes 0xE2 (getD t 0 0) (getD t 1 0) ≡ false
+    → confusing (scalar (0xE2 ∷ take 2 t)) ≡ false
+led-plain t ch h =
+    let c = getD-take 2 t 0 0 (omega arith) in
+    let d = getD-take 2 t 1 0 (omega arith) in unconfusing (0xE2 ∷ take 2 t) ch (rw (c, d) h)
 
 -- ---- looking at the bytes 0xE2 alone
 
@@ -111,7 +116,7 @@ beyond-beyond : (n m : ℕ) (h : Hidden) → beyond n (beyond m h) ≡ beyond (n
 beyond-beyond n m clear = refl
 beyond-beyond n m (found p c) = ap (λ (k : ℕ). found k c) (sym (add-assoc n m p))
 
-glance-next : (x : ℕ) (t : List ℕ) → lead x ≡ false → glance (x ∷ t) ≡ beyond 1 (glance t)
+pub glance-next : (x : ℕ) (t : List ℕ) → lead x ≡ false → glance (x ∷ t) ≡ beyond 1 (glance t)
 unfolding glance
 glance-next x t e = rw (e, glance)
 
@@ -128,7 +133,7 @@ glance-plain x t f = go (lead x) refl
     go true e = rw (e, f, glance)
     go false e = rw (e, glance)
 
-pub glance-each : {w : List ℕ} (u : List ℕ) → Each lead false w → glance (w ++ u) ≡ beyond (length w) (glance u)
+glance-each : {w : List ℕ} (u : List ℕ) → Each lead false w → glance (w ++ u) ≡ beyond (length w) (glance u)
 glance-each u none = sym (beyond-none (glance u))
 glance-each u (next {x = x} {t = w} e r) =
     glance-next x (w ++ u) e ∙ ap (beyond 1) (glance-each u r) ∙ beyond-beyond 1 (length w) (glance u)
@@ -146,7 +151,7 @@ glance-char : (x : ℕ) (c u : List ℕ) → Char (x ∷ c) → (b : Bool) → c
 glance-char x c u ch b e = go (lead x) refl b e
   where
     three : lead x ≡ true → take 3 (x ∷ (c ++ u)) ≡ x ∷ c
-    three l = let f : length c ≡ 2 = char-led (rw (lead-is x l) at ch) in take-at (x ∷ c) u 3 (omega arith)
+    three l = led-front x c u ch (lead-is x l)
 
     go : (a : Bool) → lead x ≡ a → (b : Bool) → confusing (scalar (x ∷ c)) ≡ b
         → glance (x ∷ (c ++ u)) ≡ elim b [ true ↦ found 0 (scalar (x ∷ c)) | false ↦ beyond (suc (length c)) (glance u) ]

@@ -1,31 +1,33 @@
--- Laws of one character: at a place, as a digit, as a letter after `\`, and in its classes. Assumes nothing.
+-- Laws of one character: at a place, as a digit, and as a letter after `\`. Assumes nothing.
 use Prim.Native.Nat.{ℕ, zero, suc, _≤_, _<_}
 use mathlib.Core.Path.{_≡_, refl, sym, ap, subst, _∙_}
 use mathlib.Core.Logic.{⊎-elim}
 use mathlib.Core.List.{List, [], _∷_}
 use mathlib.Core.Option.{Option, none, some}
-use mathlib.Core.Bool.{Bool, true, false}
+use mathlib.Core.Bool.{true}
 use native.Mathlib.Omega.{arith}
+use native.Mathlib.Nat.{add-zero}
 use lib.ListN.{length, getD, take, drop}
-use lib.Seq.{drop-cons}
+use lib.Seq.{drop-cons, getD-take, getD-drop}
 use borrow.Author.Tests.{lt-ltb, le-ltb, ne-eqb}
 use Rattle.wat.specs.Bytes.{byte}
 use Rattle.wat.specs.Utf8.{scalar}
 use Rattle.wat.specs.declared.Front.the-variants.{Whole}
 use Rattle.wat.specs.Utf8Model.{front}
-use Rattle.wat.specs.Chars.{isScalar, confusing}
+use Rattle.wat.specs.Chars.{isScalar}
 use Rattle.wat.specs.Strings.{escapes}
 use Rattle.wat.specs.StringModel as model
 use Rattle.wat.specs.StringModel.{nothing, peek, hexOf, encode}
 use Rattle.wat.proofs.Utf8Laws.{char-front}
 use Rattle.wat.proofs.ScalarValues.{char-right}
 use Rattle.wat.proofs.Scalars.{ascii, alone-at, scalar-split}
-use Rattle.wat.proofs.Basics.{below, has-every}
+use Rattle.wat.proofs.Basics.{below}
 use Rattle.wat.proofs.HexDigits.{of-hex, hex-ascii}
 use Rattle.utf8_chars.specs.Decoding.{Character, Decodes}
 use Rattle.utf8_chars.specs.declared.Decoded.{Decoded}
 use Rattle.utf8_chars.specs.declared.Decoded.the-variants as decoded
 use Rattle.utf8_chars.proofs.DecodeLaws.{decoded-char}
+use Rattle.utf8_chars.proofs.CharBytes.{wide-scalar}
 use Rattle.buffers.proofs.EncodeLaws.{long-1, long-2, long-3, long-4}
 use Rattle.lex_classes.specs.Ask.{digitOf}
 use Rattle.lex_escapes.specs.Elements.{letterOf}
@@ -58,15 +60,10 @@ module _ (s : List ℕ) (at v n : ℕ) (ch : Character s at v n) where
 
   -- nor does one that starts with another byte
   pub high : 0x80 ≤ getD s at 0 → 0x80 ≤ v
-  high h = ⊎-elim (λ l. absurd (low l)) (λ l. l) (below v 0x80)
-    where
-      low : v < 0x80 → ⊥
-      low l =
-          let o : n ≡ 1 = alone l in
-          let e : take 1 (drop at s) ≡ v ∷ [] = rw (← o) (alone-at (take n (drop at s)) v (ch .is) (sym (ch .value)) l) in
-          let d : take 1 (drop at s) ≡ getD s at 0 ∷ [] = rw (drop-cons s at 0 (omega (arith, ch .fits, ch .some))) in
-          let q : v ≡ getD s at 0 = cc in
-          omega arith
+  high h =
+      let first : getD (take n (drop at s)) 0 0 ≡ getD s at 0 =
+      rw (getD-take n (drop at s) 0 0 (ch .some), getD-drop at s 0 0, add-zero at) in
+      omega (arith, ch .value, wide-scalar (take n (drop at s)) (ch .is) (omega arith))
 
   pub encoded : encode v ≡ take n (drop at s)
   encoded = ap encode (ch .value) ∙ char-right (take n (drop at s)) (ch .is) .0
@@ -113,12 +110,3 @@ no-letter c t n r q a b =
 
 pub scalar-small : (n : ℕ) → isScalar n ≡ true → n < 0x110000
 scalar-small n e = ⊎-elim (λ h. omega arith) (λ h. omega arith) (scalar-split n e)
-
--- the confusing characters are from U+2000 to U+2FFF
-pub confusing-not : (x : ℕ) → (0x2000 ≤ x → x < 0x3000 → ⊥) → confusing x ≡ false
-unfolding confusing
-confusing-not x f = go (confusing x) refl
-  where
-    go : (b : Bool) → confusing x ≡ b → confusing x ≡ false
-    go true e = absurd (f (has-every (λ y. 0x2000 ≤ y) _ x (omega arith) e) (has-every (λ y. y < 0x3000) _ x (omega arith) e))
-    go false e = e

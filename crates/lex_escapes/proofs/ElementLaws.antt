@@ -26,7 +26,8 @@ use Rattle.utf8_chars.specs.Decoding.{Character}
 use Rattle.lex_escapes.specs.Elements.{Element, Refuses, Says}
 use Rattle.lex_escapes.specs.declared.Read as declared
 use Rattle.lex_escapes.specs.declared.Read.the-variants.{Byte, Char, Quote, Refused}
-use Rattle.lex_escapes.proofs.CharLaws.{alone, alone-hex, encoded, confusing-not}
+use Rattle.lex_classes.proofs.ConfusingLaws.{confusing-not}
+use Rattle.lex_escapes.proofs.CharLaws.{alone, alone-hex, encoded}
 
 -- ---- an answer and its bounds, by the place in the text
 

@@ -16,26 +16,33 @@ abbrev μ-loop : tie.MeasureT-loop
 μ-loop s from to i₀ i = length s - i
 
 -- the places: where a round begins; the function's start; and where the byte 0xE2 is found, seen from where the character is asked about
-abbrev round : tie.After-memchr2 Inv-loop μ-loop → tie.At-loop Inv-loop μ-loop
+abbrev round : tie.After-next-hidden Inv-loop μ-loop → tie.At-loop Inv-loop μ-loop
 round c = c .before .before
 
-abbrev start : tie.After-memchr2 Inv-loop μ-loop → tie.Start Inv-loop μ-loop
-start c = round c .before .before
+abbrev start : tie.After-next-hidden Inv-loop μ-loop → tie.Start Inv-loop μ-loop
+start c = round c .before .before .before
 
-abbrev found : tie.After-is-confusing-unicode Inv-loop μ-loop → tie.After-memchr2 Inv-loop μ-loop
+abbrev found : tie.After-is-confusing-unicode Inv-loop μ-loop → tie.After-next-hidden Inv-loop μ-loop
 found c = c .before .before .before
 
+first-lead-requires : tie.Need-first-lead-requires Inv-loop μ-loop
+first-lead-requires c κs = (omega arith, omega arith)
+
 loop-holds : tie.Need-loop-holds Inv-loop μ-loop
-loop-holds c = seen-start _ _ _ (omega arith) (c .before .pre .1)
+loop-holds c =
+    let w = c .before .before .pre .1 in
+    seen-plain _ _ _ _ (c .first-lead .result) w (seen-start _ _ _ (omega arith) w) (c .first-lead .ensures)
 
-memchr2-requires : tie.Need-memchr2-requires Inv-loop μ-loop
-memchr2-requires c κs = (omega arith, omega arith)
+next-hidden-requires : tie.Need-next-hidden-requires Inv-loop μ-loop
+next-hidden-requires c κs = (omega arith, omega arith)
 
--- at the next byte 0xE2, or past the comment
+-- at the next byte 0xE2 behind places that hide nothing, or past the comment
 reached :
-    (c : tie.After-memchr2 Inv-loop μ-loop) → let a = start c .args in
-    Seen (a .s .now) (a .from) (a .to) (c .memchr2 .result)
-reached c = let l = round c .loop in seen-plain _ _ _ (l .i) (c .memchr2 .result) (l .inv) (c .memchr2 .ensures .passed)
+    (c : tie.After-next-hidden Inv-loop μ-loop) → let a = start c .args in
+    Seen (a .s .now) (a .from) (a .to) (c .next-hidden .result)
+reached c =
+    let l = round c .loop in
+    seen-plain _ _ _ (l .i) (c .next-hidden .result) (start c .pre .1) (l .inv) (c .next-hidden .ensures .passed)
 
 returns : tie.Need-returns Inv-loop μ-loop
 returns c = seen-clear _ _ _ _ (reached (c .before)) (omega arith)
@@ -43,7 +50,7 @@ returns c = seen-clear _ _ _ _ (reached (c .before)) (omega arith)
 char-at-requires : tie.Need-char-at-requires Inv-loop μ-loop
 char-at-requires c κs =
     let m = c .before in
-    seen-whole _ _ _ _ (reached m) (omega arith) (m .memchr2 .ensures .stops (omega arith)) (start m .pre .1)
+    seen-whole _ _ _ _ (reached m) (omega arith) (start m .pre .1) (m .next-hidden .ensures .stops (omega arith))
 
 is-confusing-unicode-requires : tie.Need-is-confusing-unicode-requires Inv-loop μ-loop
 is-confusing-unicode-requires c κs = tt
@@ -51,7 +58,7 @@ is-confusing-unicode-requires c κs = tt
 -- what the code asks of the character it decoded
 asked :
     (c : tie.After-is-confusing-unicode Inv-loop μ-loop) → let m = found c in
-    confusing (scalar (take 3 (drop (m .memchr2 .result) (start m .args .s .now)))) ≡ c .is-confusing-unicode .result
+    confusing (scalar (take 3 (drop (m .next-hidden .result) (start m .args .s .now)))) ≡ c .is-confusing-unicode .result
 asked c = ap confusing (sym (c .before .char-at .ensures)) ∙ sym (c .is-confusing-unicode .ensures)
 
 returns-2 : tie.Need-returns-2 Inv-loop μ-loop
@@ -59,7 +66,7 @@ returns-2 c =
     let q = c .before in
     let m = found q in
     rw (q .before .char-at .ensures)
-    (seen-found _ _ _ _ (reached m) (omega arith) (m .memchr2 .ensures .stops (omega arith)) (asked q ∙ c .if2 .taken) (omega arith))
+    (seen-found _ _ _ _ (reached m) (omega arith) (m .next-hidden .ensures .stops (omega arith)) (asked q ∙ c .if2 .taken) (omega arith))
 
 add-i : tie.Need-add-i Inv-loop μ-loop
 add-i c = omega arith
@@ -79,8 +86,9 @@ check-confusing-comment-spec =
     (tie.spec
     Inv-loop
     μ-loop
+    first-lead-requires
     loop-holds
-    memchr2-requires
+    next-hidden-requires
     returns
     char-at-requires
     is-confusing-unicode-requires

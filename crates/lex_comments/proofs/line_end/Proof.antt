@@ -10,7 +10,7 @@ memchr2-requires c κs = search needs
 
 returns : tie.Need-returns
 unfolding newline
-returns c = sought-all _ _ _ _ _ (c .memchr2 .ensures)
+returns c = sought-all _ _ _ _ (c .memchr2 .ensures)
 
 pub line-end-spec : {M : Type 1} → statement M
 line-end-spec = tie.close (tie.spec memchr2-requires returns)
