@@ -5,27 +5,29 @@ use mathlib.Core.List.{List, [], _∷_, _++_, append-assoc, append-nil}
 use mathlib.Core.Option.{some}
 use mathlib.Core.Bool.{Bool, true, false, _&&_, not}
 use native.Mathlib.Omega.{arith}
-use native.Mathlib.Numerals.{add-one, add-two}
+use native.Mathlib.Numerals.{add-one, add-two, add-three}
 use lib.Dec.{eqb}
 use lib.ListN.{length, getD, take, drop}
 use lib.Seq.{take-add, drop-cons, drop-drop, slice, slice-empty, slice-cons}
 use borrow.Author.Tests.{le-ltb, eq-eqb, ne-eqb, eqb-false, not-true}
 use Rattle.wat.specs.Bytes.{byte, between, has}
 use Rattle.wat.specs.declared.Settings.{Settings}
-use Rattle.wat.specs.Utf8.{_‥_, table, Fits, Char, scalar}
+use Rattle.wat.specs.Utf8.{Char, scalar}
 use Rattle.wat.specs.Chars.{control}
 use Rattle.wat.specs.Strings.{Elem, Elems}
 use Rattle.wat.specs.StringModel.{hexOf, read}
-use Rattle.wat.proofs.Utf8Rows.{char-of}
-use Rattle.wat.proofs.Utf8Laws.{row-at}
 use Rattle.wat.proofs.Scalars.{ascii}
 use Rattle.wat.proofs.Basics.{between-true, differ}
 use Rattle.wat.proofs.HexDigits.{of-hex}
 use Rattle.wat.proofs.ElementReads.{elem-read}
-use Rattle.lex_classes.specs.Ask.{raw}
+use Rattle.wat.proofs.ElementFaults.{high-raw}
+use Rattle.utf8_chars.specs.Boundary.{Continues}
+use Rattle.utf8_chars.specs.Fronts.{Second}
+use Rattle.utf8_chars.proofs.CharBytes.{char-2, char-3, char-4, wide-scalar}
+use Rattle.lex_classes.specs.Ask.{raw, confusingBytes}
+use Rattle.lex_classes.proofs.ConfusingLaws.{confusing-not, unconfusing, unled}
 use Rattle.lex_escapes.specs.Elements.{Element}
 use Rattle.lex_strings.specs.Raw.{Raw, Raws}
-use Rattle.lex_escapes.proofs.CharLaws.{confusing-not}
 use Rattle.lex_escapes.proofs.ElementLaws.{an-element}
 
 pub both : (a b : Bool) → a && b ≡ true → (a ≡ true) × (b ≡ true)
@@ -34,16 +36,8 @@ both false b e = differ (cc)
 
 -- ---- raw characters
 
-raw-elem :
-    (σ : Settings) (c : List ℕ) (x : ℕ) → scalar c ≡ x → Char c → 0x20 ≤ x → (x ≡ 0x7F → ⊥)
-    → (x ≡ byte "\"" → ⊥) → (x ≡ byte "\\" → ⊥)
-    → (0x2000 ≤ x → x < 0x3000 → ⊥) → Elem σ c c
-unfolding control
-raw-elem σ c x e ch h n f g k =
-    Elem.raw ch (rw (e, le-ltb x 0x20 h, ne-eqb x 0x7F n)) (λ q. f (sym e ∙ q)) (λ q. g (sym e ∙ q)) (λ q. rw e (confusing-not x k))
-
 pub raw-one : (s : List ℕ) (i : ℕ) → i < length s → raw (getD s i 0) ≡ true → Raw s i 1
-unfolding scalar raw
+unfolding scalar raw control
 raw-one s i h e =
     let b = getD s i 0 in
     let w = both (between 0x20 0x7E b) _ e in
@@ -51,52 +45,76 @@ raw-one s i h e =
     let n = both (not (eqb b (byte "\""))) _ (w .1) in
     let f = eqb-false b (byte "\"") (not-true _ (n .0)) in
     let g = eqb-false b (byte "\\") (not-true _ (n .1)) in
-    record {
-      fits = omega arith;
-      is = λ o σ. rw (drop-cons s i 0 h) (raw-elem σ (b ∷ []) b refl (ascii b (omega arith)) (k .0) (omega arith) f g (omega arith));
-    }
+    let shown : control b ≡ false = rw (le-ltb b 0x20 (k .0), ne-eqb b 0x7F (omega arith)) in
+    let plain = confusing-not b (omega arith) in
+    record { fits = omega arith; is = λ o σ. rw (drop-cons s i 0 h) (Elem.raw (ascii b (omega arith)) shown f g (λ _. plain)) }
 
-pub raw-two :
-    (s : List ℕ) (i : ℕ) → i + 2 ≤ length s → 0xC2 ≤ getD s i 0 → getD s i 0 < 0xE0
-    → between 0x80 0xBF (getD s (i + 1) 0) ≡ true
-    → Raw s i 2
-unfolding scalar table
-raw-two s i h l u e =
-    let a = getD s i 0 in
-    let b = getD s (i + 1) 0 in
-    let w = between-true 0x80 0xBF b e in
-    let d : take 2 (drop i s) ≡ a ∷ b ∷ [] = rw (drop-cons s i 0 (omega arith), drop-cons s (suc i) 0 (omega arith), add-one i) in
-    let ch =
-    char-of a (0x80 ‥ 0xBF ∷ []) (b ∷ []) (row-at 1 0xC2 0xDF a (0x80 ‥ 0xBF ∷ []) (omega arith) refl l (omega arith))
-    (Fits.next (w .0) (w .1) Fits.done) in
+-- a character that is not ASCII, and has not the bytes of a confusing one
+raw-wide :
+    (s : List ℕ) (i n : ℕ) (c : List ℕ) → i + n ≤ length s → take n (drop i s) ≡ c → Char c → 0x80 ≤ getD c 0 0
+    → confusingBytes (getD c 0 0) (getD c 1 0) (getD c 2 0) ≡ false → Raw s i n
+raw-wide s i n c h e ch w f =
+    let high = wide-scalar c ch w in
     record {
       fits = h;
-      is = λ o σ. rw d (raw-elem σ (a ∷ b ∷ []) _ refl ch (omega arith) (omega arith) (omega arith) (omega arith) (omega arith));
+      is = λ o σ. rw e (Elem.raw ch (high-raw (scalar c) high) (omega arith) (omega arith) (λ _. unconfusing c ch f));
     }
 
-pub raw-three :
-    (s : List ℕ) (i : ℕ) → i + 3 ≤ length s → 0xE3 ≤ getD s i 0 → getD s i 0 ≤ 0xEC
-    → between 0x80 0xBF (getD s (i + 1) 0) ≡ true
-    → between 0x80 0xBF (getD s (i + 2) 0) ≡ true → Raw s i 3
-unfolding scalar table
-raw-three s i h l u e f =
-    let a = getD s i 0 in
-    let b = getD s (i + 1) 0 in
-    let c = getD s (i + 2) 0 in
-    let w = between-true 0x80 0xBF b e in
-    let x = between-true 0x80 0xBF c f in
-    let d : take 3 (drop i s) ≡ a ∷ b ∷ c ∷ [] =
-    rw
-    (drop-cons s i 0 (omega arith), drop-cons s (suc i) 0 (omega arith), drop-cons s (suc (suc i)) 0 (omega arith), add-one i, add-two i) in
-    let ch =
-    char-of a (0x80 ‥ 0xBF ∷ 0x80 ‥ 0xBF ∷ []) (b ∷ c ∷ [])
-    (row-at 3 0xE1 0xEC a (0x80 ‥ 0xBF ∷ 0x80 ‥ 0xBF ∷ []) (omega arith) refl (omega arith) u)
-    (Fits.next (w .0) (w .1) (Fits.next (x .0) (x .1) Fits.done)) in
-    record {
-      fits = h;
-      is = λ o σ. rw d (raw-elem σ (a ∷ b ∷ c ∷ []) _ refl ch (omega arith) (omega arith) (omega arith) (omega arith)
-          (omega arith));
-    }
+-- what `continues` says
+pub continuing : (r : Bool) (b : ℕ) → r ≡ between 0x80 0xBF b → r ≡ true → Continues b
+continuing r b e t = let w = between-true 0x80 0xBF b (sym e ∙ t) in (w .0, omega arith)
+
+-- characters of two, three and four bytes
+
+module _ (s : List ℕ) (i : ℕ) where
+  abbrev a : ℕ
+  a = getD s i 0
+
+  abbrev b : ℕ
+  b = getD s (i + 1) 0
+
+  abbrev c : ℕ
+  c = getD s (i + 2) 0
+
+  abbrev d : ℕ
+  d = getD s (i + 3) 0
+
+  pub raw-two : (i + 2 ≤ length s) × (0xC2 ≤ a) × (a < 0xE0) → Continues b → Raw s i 2
+  raw-two h k =
+      raw-wide s i 2 (a ∷ b ∷ []) (h .0) (rw (drop-cons s i 0 (omega arith), drop-cons s (suc i) 0 (omega arith), add-one i))
+      (char-2 a b (h .1) (h .2) k) (omega arith) (unled a b 0 (omega arith))
+
+  pub raw-three :
+      (i + 3 ≤ length s) × (0xE0 ≤ a) × (a < 0xF0) → Continues b × Continues c
+      → (a ≡ 0xE0 → 0xA0 ≤ b) × (a ≡ 0xED → b ≤ 0x9F) → confusingBytes a b c ≡ false → Raw s i 3
+  raw-three h k e f =
+      let second : Second a b = record { after-E0 = e .0; after-ED = e .1; after-F0 = omega arith; after-F4 = omega arith } in
+      raw-wide s i 3 (a ∷ b ∷ c ∷ []) (h .0)
+      (rw (
+        drop-cons s i 0 (omega arith),
+        drop-cons s (suc i) 0 (omega arith),
+        drop-cons s (suc (suc i)) 0 (omega arith),
+        add-one i,
+        add-two i,
+      ))
+      (char-3 a b c (h .1) (h .2) (k .0) second (k .1)) (omega arith) f
+
+  pub raw-four :
+      (i + 4 ≤ length s) × (0xF0 ≤ a) × (a ≤ 0xF4) → Continues b × Continues c × Continues d
+      → (a ≡ 0xF0 → 0x90 ≤ b) × (a ≡ 0xF4 → b ≤ 0x8F) → Raw s i 4
+  raw-four h k e =
+      let second : Second a b = record { after-E0 = omega arith; after-ED = omega arith; after-F0 = e .0; after-F4 = e .1 } in
+      raw-wide s i 4 (a ∷ b ∷ c ∷ d ∷ []) (h .0)
+      (rw (
+        drop-cons s i 0 (omega arith),
+        drop-cons s (suc i) 0 (omega arith),
+        drop-cons s (suc (suc i)) 0 (omega arith),
+        drop-cons s (suc (suc (suc i))) 0 (omega arith),
+        add-one i,
+        add-two i,
+        add-three i,
+      ))
+      (char-4 a b c d (h .1) (h .2) (k .0) second (k .1) (k .2)) (omega arith) (unled a b c (omega arith))
 
 pub raw-none : (s : List ℕ) (i : ℕ) → i < length s → Raw s i 0
 raw-none s i h = record { fits = omega arith; is = λ o. absurd (omega arith) }

@@ -3,7 +3,7 @@
 
 ghost use mathlib.Core.Path.{_≡_};
 ghost use Prim.Native.Nat.{_≤_, _<_};
-ghost use lib.ListN.{length, drop};
+ghost use lib.ListN.{length, getD, drop};
 ghost use lib.Seq.{slice};
 ghost use Rattle.wat.specs.Bytes.{byte, between, has};
 ghost use Rattle.wat.specs.Settings.{lenient};
@@ -169,7 +169,7 @@ fn raw_end(s: &[u8], at: usize, t: &[u8; 256]) -> usize
     i
 }
 
-// The length of a raw character of two bytes, or of three if from U+3000 to U+CFFF, where none is confusing; or 0.
+// The length of a character at a place that is neither ASCII nor confusing, or 0.
 fn wide_raw(s: &[u8], at: usize) -> usize
     requires { ⌜ at < length (now s) ⌝ }
     ensures { λ r. ⌜ Raw (now (s .entry)) at r ⌝ }
@@ -187,12 +187,21 @@ fn wide_raw(s: &[u8], at: usize) -> usize
         }
         return 0;
     }
-    if a < 0xE3 {
-        return 0;
+    if (0xE3 <= a) & (a <= 0xEC) {
+        return common_raw(s, at);
     }
-    if 0xEC < a {
-        return 0;
+    if a < 0xF0 {
+        return three_raw(s, at);
     }
+    four_raw(s, at)
+}
+
+// 3 where a character from U+3000 to U+CFFF stands, or 0: those of three bytes that are met most, and none is
+// confusing.
+fn common_raw(s: &[u8], at: usize) -> usize
+    requires { ⌜ (at < length (now s)) × (0xE3 ≤ getD (now s) at 0) × (getD (now s) at 0 ≤ 0xEC) ⌝ }
+    ensures { λ r. ⌜ Raw (now (s .entry)) at r ⌝ }
+{
     if s.len() - at < 3 {
         return 0;
     }
@@ -202,7 +211,73 @@ fn wide_raw(s: &[u8], at: usize) -> usize
     0
 }
 
-// Whether a byte may be a character's second or third.
+// 3 where a character of three bytes stands that is not confusing, or 0.
+fn three_raw(s: &[u8], at: usize) -> usize
+    requires { ⌜ (at < length (now s)) × (0xE0 ≤ getD (now s) at 0) × (getD (now s) at 0 < 0xF0) ⌝ }
+    ensures { λ r. ⌜ Raw (now (s .entry)) at r ⌝ }
+{
+    if s.len() - at < 3 {
+        return 0;
+    }
+    let a = s[at];
+    let b = s[at + 1];
+    let c = s[at + 2];
+    if !(continues(b) & continues(c)) {
+        return 0;
+    }
+    if a < 0xE3 {
+        if a == 0xE0 {
+            if b < 0xA0 {
+                return 0;
+            }
+            return 3;
+        }
+        if lex_classes::is_confusing_bytes(a, b, c) {
+            return 0;
+        }
+        return 3;
+    }
+    if a == 0xED {
+        if 0x9F < b {
+            return 0;
+        }
+        return 3;
+    }
+    3
+}
+
+// 4 where a character of four bytes stands, or 0.
+fn four_raw(s: &[u8], at: usize) -> usize
+    requires { ⌜ (at < length (now s)) × (0xF0 ≤ getD (now s) at 0) ⌝ }
+    ensures { λ r. ⌜ Raw (now (s .entry)) at r ⌝ }
+{
+    if s.len() - at < 4 {
+        return 0;
+    }
+    let a = s[at];
+    let b = s[at + 1];
+    if !(continues(b) & (continues(s[at + 2]) & continues(s[at + 3]))) {
+        return 0;
+    }
+    if a == 0xF0 {
+        if b < 0x90 {
+            return 0;
+        }
+        return 4;
+    }
+    if a < 0xF4 {
+        return 4;
+    }
+    if 0xF4 < a {
+        return 0;
+    }
+    if 0x8F < b {
+        return 0;
+    }
+    4
+}
+
+// Whether a byte may be one of a character after its first.
 fn continues(b: u8) -> bool
     ensures { λ r. ⌜ r ≡ between 0x80 0xBF b ⌝ }
 {
