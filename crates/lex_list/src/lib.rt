@@ -48,7 +48,7 @@ fn list_from(
                 position: at,
             };
         }
-        let step = lex_token::parse_kind(text, at, settings, &t);
+        let step = lex_token::step_at(text, at, settings, &t);
         if step.kind == 0 {
             let fault = lex_calls::fault_at(text, at, settings, &t);
             let error = fault.error;

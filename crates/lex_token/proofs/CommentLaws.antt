@@ -6,9 +6,9 @@ use mathlib.Core.List.{List, [], _∷_}
 use mathlib.Core.Option.{none, some}
 use native.Mathlib.Omega.{arith}
 use lib.Dec.{ltb}
-use lib.ListN.{length, drop, length-drop}
+use lib.ListN.{length, getD, drop, length-drop}
 use lib.Seq.{drop-drop}
-use borrow.Author.Tests.{ltb-true, ltb-false, lt-ltb, le-ltb}
+use borrow.Author.Tests.{ltb-true, ltb-false, lt-ltb, le-ltb, eqb-false}
 use Rattle.wat.specs.Faults.{fault}
 use Rattle.wat.specs.declared.TokenKind.{TokenKind}
 use Rattle.wat.specs.declared.TokenKind.the-variants as kind
@@ -17,6 +17,7 @@ use Rattle.wat.specs.declared.Answer.{Answer}
 use Rattle.wat.specs.declared.Answer.the-variants as answer
 use Rattle.wat.specs.Bytes.{byte}
 use Rattle.wat.specs.declared.Settings.{Settings}
+use Rattle.wat.specs.Utf8.{WellFormed}
 use Rattle.wat.specs.Chars.{newline}
 use Rattle.wat.specs.CommentModel.{fresh, ends}
 use Rattle.wat.specs.declared.Hidden.{Hidden}
@@ -26,9 +27,11 @@ use Rattle.wat.specs.LexModel.{next, hidden, commentBy, comment, blockBy, lexBy
 use Rattle.wat.proofs.Basics.{never}
 use Rattle.lex_classes.specs.Scan.{Scanned}
 use Rattle.wat.specs.declared.Hidden.the-variants.{Clear, Found}
-use Rattle.lex_comments.specs.Ends.{endOf, BlockEnd}
+use Rattle.lex_comments.specs.Ends.{lineStop, endOf, BlockEnd}
 use Rattle.lex_comments.proofs.BlockLaws.{open-none, closed-some}
 use Rattle.lex_comments.specs.Confusing.{before, hiddenIn}
+use Rattle.lex_comments.proofs.LineLaws.{line-ends, line-hides-nothing}
+use Rattle.lex_token.proofs.SliceLaws.{next-byte}
 
 -- ---- confusing characters
 
@@ -66,6 +69,16 @@ module _ (k : TokenKind) (s : List ℕ) (at end : ℕ) (σ : Settings) where
   comment-off e l q =
       rw (e, comment) (commented k at end l (hidden (suc (length (drop at s))) (drop at s)) ∙ ap (foundAs k at end) (sym q))
 
+  -- nothing in it is confusing: it stands under any settings
+  pub comment-plain :
+      at ≤ end → hiddenIn at end (hidden (suc (length (drop at s))) (drop at s)) ≡ Clear
+      → comment σ k (end - at) (drop at s) ≡ answer.Token k (end - at)
+  comment-plain l q = go (σ .«allow_confusing») refl
+    where
+      go : (b : Bool) → σ .«allow_confusing» ≡ b → comment σ k (end - at) (drop at s) ≡ answer.Token k (end - at)
+      go true e = comment-on e
+      go false e = comment-off e l (sym q)
+
 -- ---- comments by their marks
 
 pub open-within : (s : List ℕ) (at : ℕ) → next (byte ";") (drop (at + 1) s) ≡ true → at + 2 ≤ length s
@@ -100,6 +113,14 @@ module _ (σ : Settings) (s : List ℕ) (at : ℕ) where
     pub semi-comment :
         {end : ℕ} → Scanned newline false s at end → lexBy σ semi (drop at s) ≡ comment σ kind.LineComment (end - at) (drop at s)
     semi-comment c = rw (second ∙ n, lexBy) (ap (λ (m : ℕ). comment σ kind.LineComment m (drop at s)) (omega (arith, c .end)))
+
+    -- a line up to k, where no 0xE2 stops it
+    pub semi-plain :
+        {k : ℕ} → WellFormed (drop at s) → Scanned lineStop false s at k → next 0xE2 (drop k s) ≡ false
+        → lexBy σ semi (drop at s) ≡ answer.Token kind.LineComment (k - at)
+    semi-plain {k} g c q =
+        semi-comment (line-ends s at k c (λ h. eqb-false (getD s k 0) 0xE2 (sym (next-byte 0xE2 s k h) ∙ q)))
+        ∙ comment-plain kind.LineComment s at k σ (omega (arith, c .end)) (line-hides-nothing s at k c g)
 
     block : lexBy σ open-paren (drop at s) ≡ blockBy σ (drop at s) (ends fresh 0 (drop (at + 2) s))
     block = rw (second ∙ n, lexBy) (ap (λ (t : List ℕ). blockBy σ (drop at s) (ends fresh 0 t)) (drop-drop 2 at s))

@@ -32,7 +32,7 @@ use Rattle.lex_classes.specs.Scan.{Scanned}
 use Rattle.lex_token.specs.Steps.{nowhere, stepOf}
 use Rattle.lex_token.proofs.SliceLaws.{slice-split, slice-take, slice-join}
 use Rattle.lex_token.proofs.StepLaws.{step-token, step-fault}
-use Rattle.lex_token.proofs.RunLaws.{walked, Ran, ran-more, ran-walk, scanned-idchars, ran-idchars, idchars-stop, Quoted}
+use Rattle.lex_token.proofs.RunLaws.{walked, Ran, ran-more, ran-walk, scanned-each, ran-idchars, idchars-stop, Quoted}
 use Rattle.lex_token.proofs.LexLaws.{lex-family, Within, lex-within}
 
 -- ---- a string under any settings is one under the lenient ones
@@ -43,7 +43,7 @@ str-lenient (Str.quoted q) = Str.quoted (elems-lenient q)
 -- ---- the answer for a run, by where its walk ends
 
 module _ (σ : Settings) (s : List ℕ) (at : ℕ) where
-  step-stops :
+  pub step-stops :
       {n m end : ℕ} {k : TokenKind}
       → walked σ (drop at s) ≡ stops n → kindOf (take n (drop at s)) ≡ k → m ≡ kindNumber k → end ≡ at + n
       → record { kind = m; end = end } ≡ stepOf at (lexBy σ run (drop at s))
@@ -54,7 +54,7 @@ module _ (σ : Settings) (s : List ℕ) (at : ℕ) where
 
 -- ---- idchars alone
 
-each-head : {f : ℕ → Bool} {b : Bool} {x : ℕ} {t : List ℕ} → Each f b (x ∷ t) → f x ≡ b
+pub each-head : {f : ℕ → Bool} {b : Bool} {x : ℕ} {t : List ℕ} → Each f b (x ∷ t) → f x ≡ b
 each-head (Each.next e r) = e
 
 module _ (σ : Settings) (s : List ℕ) (at i : ℕ) (c : Scanned idchar true s at i) (g : WellFormed (drop at s))
@@ -75,7 +75,7 @@ module _ (σ : Settings) (s : List ℕ) (at i : ℕ) (c : Scanned idchar true s 
 
       is : kindOf (slice at i s) ≡ wordKind (classify (slice at i s)) (getD s at 0)
       is =
-          let w : Each idchar true (getD s at 0 ∷ slice (at + 1) i s) = rw first at (scanned-idchars c) in
+          let w : Each idchar true (getD s at 0 ∷ slice (at + 1) i s) = rw first at (scanned-each c) in
           ap kindOf first ∙ kind-word w (each-head w) ∙ ap (λ (z : List ℕ). wordKind (classify z) (getD s at 0)) (sym first)
 
 pub word-some :
@@ -132,10 +132,10 @@ module _ (σ : Settings) (s : List ℕ) (at i j : ℕ) (c : Scanned idchar true 
         let is : kindOf (take (j - at + n) (drop at s)) ≡ quotedBy (slice at i s) =
         ap kindOf (bytes-of n ∙ ap (λ (m : ℕ). slice at i s ++ (slice i j s ++ take m (drop j s))) z
         ∙ ap (λ (y : List ℕ). slice at i s ++ y) (append-nil (slice i j s)))
-        ∙ kind-one-string (scanned-idchars c) (str-lenient (d .is)) in
+        ∙ kind-one-string (scanned-each c) (str-lenient (d .is)) in
         step-stops σ s at string-stops is q (omega (arith, ran .onward))
 
     pub more-step : {end : ℕ} → 0 < n → end ≡ j + n → record { kind = 10; end = end } ≡ stepOf at (lexBy σ run (drop at s))
     more-step h l =
-        let more = kind-more (take n (drop j s)) (scanned-idchars c) (str-lenient (d .is)) (λ z. rest-some σ n (drop j s) e h z) in
+        let more = kind-more (take n (drop j s)) (scanned-each c) (str-lenient (d .is)) (λ z. rest-some σ n (drop j s) e h z) in
         step-stops σ s at string-stops (ap kindOf (bytes-of n) ∙ more) refl (omega (arith, ran .onward))

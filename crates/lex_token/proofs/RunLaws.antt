@@ -1,7 +1,7 @@
 -- Runs of idchars and strings, passed part by part. Assumes nothing.
 use Prim.Native.Nat.{ℕ, suc, _+_, _-_, _≤_, _<_}
 use mathlib.Core.Path.{_≡_, refl, sym, ap, _∙_}
-use mathlib.Core.Bool.{true, false}
+use mathlib.Core.Bool.{Bool, true, false}
 use mathlib.Core.List.{List, [], _∷_, _++_, append-nil, append-assoc}
 use native.Mathlib.Omega.{arith}
 use lib.ListN.{length, getD, take, drop, length-append, length-drop}
@@ -89,6 +89,18 @@ module _ {σ : Settings} {s : List ℕ} where
       ap (walked σ) (slice-split s a b (p .within) (p .onward)) ∙ run-joined (drop b s) (p .run) (p .formed)
       ∙ ap (λ (n : ℕ). on n (walked σ (drop b s))) (length-slice a b s (p .within))
 
+-- ---- the bytes that a scan has passed
+
+module _ {test : ℕ → Bool} {s : List ℕ} {at end : ℕ} (c : Scanned test true s at end) where
+  pub scanned-on : at ≤ end
+  scanned-on = omega (arith, c .end)
+
+  pub scanned-each : Each test true (slice at end s)
+  scanned-each =
+      let e : count test true (drop at s) ≡ end - at = omega (arith, c .end) in
+      let l : take (count test true (drop at s)) (drop at s) ≡ slice at end s = rw e (slice-take s at end (c .within) scanned-on) in
+      rw l at (count-take test true (drop at s) .0)
+
 -- ---- idchars
 
 after-idchars : {w : List ℕ} (u : List ℕ) → Each idchar true w → WellFormed (w ++ u) → WellFormed u
@@ -97,21 +109,15 @@ after-idchars u (Each.next {x = x} {t = t} e r) g = after-idchars u r (after-asc
 
 module _ {s : List ℕ} {at end : ℕ} (c : Scanned idchar true s at end) where
   onward : at ≤ end
-  onward = omega (arith, c .end)
-
-  pub scanned-idchars : Each idchar true (slice at end s)
-  scanned-idchars =
-      let e : count idchar true (drop at s) ≡ end - at = omega (arith, c .end) in
-      let l : take (count idchar true (drop at s)) (drop at s) ≡ slice at end s = rw e (slice-take s at end (c .within) onward) in
-      rw l at (count-take idchar true (drop at s) .0)
+  onward = scanned-on c
 
   pub ran-idchars : {σ : Settings} → WellFormed (drop at s) → Ran σ s at end
   ran-idchars g =
       record {
         onward = onward;
         within = c .within;
-        run = word-run scanned-idchars;
-        formed = after-idchars (drop end s) scanned-idchars (rw (slice-split s at end (c .within) onward) at g);
+        run = word-run (scanned-each c);
+        formed = after-idchars (drop end s) (scanned-each c) (rw (slice-split s at end (c .within) onward) at g);
       }
 
   -- no quotation mark behind them: the run stops

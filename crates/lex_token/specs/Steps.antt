@@ -26,6 +26,10 @@ pub record Stepped (σ : Settings) (s : List ℕ) (at : ℕ) (r : Step) : Type 0
   pub within : r .end ≤ length s
   pub small : r .kind < 4096
 
+-- a step that is known without the settings is that of the answer, whatever they are; 0 says that it is not known
+pub record Quick (s : List ℕ) (at : ℕ) (r : Step) : Type 0 where
+  pub known : (r .kind ≡ 0 → ⊥) → (σ : Settings) → Stepped σ s at r
+
 -- where the answer is a fault, f is that fault, counted from the text's start
 pub record Faults (at : ℕ) (a : Answer) (f : Fault) : Type 0 where
   pub is : (x : Fault) → a ≡ answer.Fault x → f ≡ shift at x

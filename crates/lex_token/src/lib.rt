@@ -3,15 +3,18 @@
 // error, at most once a listing.
 
 ghost use mathlib.Core.Path.{_≡_};
+ghost use mathlib.Core.Bool.{true};
 ghost use Prim.Native.Nat.{suc, _-_, _≤_, _<_};
 ghost use lib.ListN.{length, getD, drop};
 ghost use Rattle.wat.specs.Utf8.{WellFormed};
+ghost use Rattle.wat.specs.Chars.{idchar};
 ghost use Rattle.wat.specs.Cases.{kindNumber};
 ghost use Rattle.wat.specs.RunModel as run;
 ghost use Rattle.wat.specs.LexModel.{next};
 ghost use Rattle.wat.specs.LexModel as model;
 ghost use Rattle.lex_classes.specs.Table.{Classes};
-ghost use Rattle.lex_token.specs.Steps.{nowhere, stepOf, Stepped};
+ghost use Rattle.lex_token.specs.Steps.{nowhere, stepOf, Stepped, Quick};
+pub use alone::token_alone;
 use lex_strings::StringEnd;
 use wat::Family;
 use wat::Hidden;
@@ -19,6 +22,7 @@ use wat::RunEnd;
 use wat::Settings;
 use wat::TokenKind;
 
+mod alone;
 mod word_kinds;
 
 // A token by two numbers: that of its kind, and the place past it. 0 and the place itself where no token is.
@@ -55,6 +59,88 @@ pub fn parse_kind(s: &[u8], at: usize, settings: Settings, t: &[u8; 256]) -> Ste
     }
 }
 
+// The same as `parse_kind`, for a loop over many tokens. Its answer is taken apart, so that it stays in registers.
+pub fn step_at(s: &[u8], at: usize, settings: Settings, t: &[u8; 256]) -> Step
+    requires { ⌜ at < length (now s) ⌝ }
+    requires { ⌜ WellFormed (drop at (now s)) ⌝ }
+    requires { ⌜ Classes (now t) ⌝ }
+    ensures { λ r. ⌜ Stepped settings (now (s .entry)) at r ⌝ }
+{
+    let step = quick(s, at, t);
+    if step.kind != 0 {
+        return step;
+    }
+    let other = parse_kind(s, at, settings, t);
+    Step {
+        kind: other.kind,
+        end: other.end,
+    }
+}
+
+// A word, white space, a parenthesis or other punctuation: what most tokens are, and the settings say nothing of. 0
+// where it is none of these. With one caller, it becomes part of the loop that calls it.
+fn quick(s: &[u8], at: usize, t: &[u8; 256]) -> Step
+    requires { ⌜ at < length (now s) ⌝ }
+    requires { ⌜ WellFormed (drop at (now s)) ⌝ }
+    requires { ⌜ Classes (now t) ⌝ }
+    ensures { λ r. ⌜ Quick (now (s .entry)) at r ⌝ }
+{
+    let b = s[at];
+    if lex_classes::is_idchar(t, b) {
+        return quick_word(s, at, t);
+    }
+    match lex_classes::begins(t, b) {
+        Family::Spaces => Step {
+            kind: TokenKind::WHITESPACE,
+            end: lex_classes::skip_ws(s, at + 1, t),
+        },
+        Family::OpenParen => quick_paren(s, at),
+        Family::CloseParen => Step {
+            kind: TokenKind::RPAREN,
+            end: at + 1,
+        },
+        Family::Single => Step {
+            kind: TokenKind::RESERVED,
+            end: at + 1,
+        },
+        Family::Semi => nothing(at),
+        Family::Run => nothing(at),
+        Family::Other => nothing(at),
+    }
+}
+
+// `(`, unless it begins a block comment.
+fn quick_paren(s: &[u8], at: usize) -> Step
+    requires { ⌜ (at < length (now s)) × (model.family (getD (now s) at 0) ≡ Family.OpenParen) ⌝ }
+    requires { ⌜ WellFormed (drop at (now s)) ⌝ }
+    ensures { λ r. ⌜ Quick (now (s .entry)) at r ⌝ }
+{
+    if is_at(s, at + 1, b';') {
+        return nothing(at);
+    }
+    Step {
+        kind: TokenKind::LPAREN,
+        end: at + 1,
+    }
+}
+
+// A word, unless a quotation mark follows it: its first idchar is seen already.
+fn quick_word(s: &[u8], at: usize, t: &[u8; 256]) -> Step
+    requires { ⌜ (at < length (now s)) × (idchar (getD (now s) at 0) ≡ true) ⌝ }
+    requires { ⌜ WellFormed (drop at (now s)) ⌝ }
+    requires { ⌜ Classes (now t) ⌝ }
+    ensures { λ r. ⌜ Quick (now (s .entry)) at r ⌝ }
+{
+    let i = lex_classes::idchars_end(s, at + 1, t);
+    if is_at(s, i, b'"') {
+        return nothing(at);
+    }
+    Step {
+        kind: word_kinds::word_kind(s, at, i, t),
+        end: i,
+    }
+}
+
 // `(`, or a block comment.
 fn open_paren(s: &[u8], at: usize, settings: Settings) -> Step
     requires { ⌜ at < length (now s) ⌝ }
@@ -74,7 +160,7 @@ fn open_paren(s: &[u8], at: usize, settings: Settings) -> Step
     comment(s, at, end, TokenKind::BLOCK_COMMENT, settings)
 }
 
-// `;`, or a line comment.
+// `;`, or a line comment: most have no byte that a confusing character begins with, and are passed by one search.
 fn semicolon(s: &[u8], at: usize, settings: Settings) -> Step
     requires { ⌜ at < length (now s) ⌝ }
     requires { ⌜ WellFormed (drop at (now s)) ⌝ }
@@ -86,10 +172,17 @@ fn semicolon(s: &[u8], at: usize, settings: Settings) -> Step
             end: at + 1,
         };
     }
+    let k = lex_comments::plain_line(s, at);
+    if !is_at(s, k, 0xe2) {
+        return Step {
+            kind: TokenKind::LINE_COMMENT,
+            end: k,
+        };
+    }
     comment(
         s,
         at,
-        lex_comments::line_end(s, at),
+        lex_comments::line_end(s, k),
         TokenKind::LINE_COMMENT,
         settings,
     )

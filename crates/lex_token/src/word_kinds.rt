@@ -1,5 +1,6 @@
 // The number of a run's kind: of a word, idchars alone, and of idchars and one string.
 ghost use mathlib.Core.Path.{_≡_};
+ghost use mathlib.Core.List.{[], _∷_};
 ghost use Prim.Native.Nat.{_≤_, _<_};
 ghost use lib.ListN.{length, getD};
 ghost use lib.Seq.{slice};
@@ -9,19 +10,45 @@ ghost use Rattle.wat.specs.NumberModel.{classify};
 ghost use Rattle.wat.specs.LexModel.{wordKind};
 ghost use Rattle.lex_classes.specs.Table.{Classes};
 ghost use Rattle.wat_laws.proofs.RunKinds.{quotedBy};
+ghost use Rattle.lex_token.specs.Fronts.{lettered};
 use wat::FloatKind;
 use wat::IntegerKind;
 use wat::Number;
 use wat::TokenKind;
 
-// The number of the kind of the idchars from `at` to `end`.
+// The number of the kind of the idchars from `at` to `end`. Their front tells most: with `$` no number begins, with a
+// letter few do, and digits alone are an integer.
 pub fn word_kind(s: &[u8], at: usize, end: usize, t: &[u8; 256]) -> u16
     requires { ⌜ (at < end) × (end ≤ length (now s)) ⌝ }
     requires { ⌜ Classes (now t) ⌝ }
     ensures { λ r. ⌜ r ≡ kindNumber
         (wordKind (classify (slice at end (now (s .entry)))) (getD (now (s .entry)) at 0)) ⌝ }
 {
-    named_kind(lex_numbers::classify_number(s, at, end, t), s[at], t)
+    let b = s[at];
+    if b == b'$' {
+        return TokenKind::ID;
+    }
+    if lex_classes::is_letter(t, b) {
+        if end - at < 2 {
+            return TokenKind::KEYWORD;
+        }
+        if !may_be_number(b, s[at + 1]) {
+            return TokenKind::KEYWORD;
+        }
+    }
+    if lex_classes::is_digit(t, false, b) {
+        if end <= lex_classes::digits_end(s, at + 1, t) {
+            return TokenKind::INTEGER;
+        }
+    }
+    named_kind(lex_numbers::classify_number(s, at, end, t), b, t)
+}
+
+// Whether a number may begin with a letter b and a byte c: `inf`, `nan` and `nan:0x` are all that begin with a letter.
+fn may_be_number(b: u8, c: u8) -> bool
+    ensures { λ r. ⌜ r ≡ lettered (b ∷ c ∷ []) ⌝ }
+{
+    ((b == b'i') & (c == b'n')) | ((b == b'n') & (c == b'a'))
 }
 
 // The number of the kind of a word, by the number that it is and its first byte.

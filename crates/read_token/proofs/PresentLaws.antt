@@ -14,7 +14,7 @@ use Rattle.wat.specs.Cases.{kindNumber}
 use Rattle.wat.specs.Tokens.{Tok}
 use Rattle.wat.specs.Lexing.{Lexed}
 use Rattle.wat.specs.LexModel.{lex}
-use Rattle.wat.specs.Calls.{Stands}
+use Rattle.wat.specs.Calls.{Stands, most}
 use Rattle.wat_values.specs.Values.{Reader, Takes, Value, Reads}
 use Rattle.wat_values.specs.Reading.{There, noPlace, Missing, own, Handed, Read}
 use Rattle.wat.proofs.Unique.{tok-some}
@@ -26,6 +26,7 @@ use Rattle.wat_values.proofs.ReadingLaws.{is-token}
 use Rattle.wat.proofs.KindNumbers.{kind-some, injective}
 use Rattle.lex_token.specs.declared.Step.{Step}
 use Rattle.lex_token.specs.Steps.{stepOf, Stepped}
+use Rattle.lex_token.specs.Alone.{Alone}
 use Rattle.lex_token.proofs.SliceLaws.{slice-take}
 use Rattle.lex_token.proofs.StepLaws.{token-of}
 
@@ -63,6 +64,14 @@ module _ (text : List ℕ) (token : Token) (s : Stands text (token .offset)) whe
         let n : t .1 ≡ token .len = omega (arith, t .4) in
         let a : lex lenient (drop (token .offset) text) ≡ answer.Token (token .kind) (token .len) = cc (t .2) in
         record { stands = s; lexed = subst (Lexed lenient (drop (token .offset) text)) a (lexed lenient (s .between)) }
+
+-- the whole of a text, and a word or a plain string, is there
+pub alone-there : (text : List ℕ) (token : Token) {n : ℕ} → token .offset ≡ 0 → length text ≤ most → token .len ≡ length text
+    → Alone text n → n ≡ kindNumber (token .kind) → There text token
+alone-there text token {n} o m l w e =
+    let a = w (λ z. kind-some (token .kind) (sym e ∙ z)) in
+    let s : Stands text 0 = record { sound = record { short = m; formed = a .formed }; within = omega arith; between = a .formed } in
+    there text token (rw o s) {r = record { kind = n; end = length text }} (rw o (a .stepped lenient)) e (omega arith)
 
 -- ---- a token that is there
 

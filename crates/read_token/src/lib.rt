@@ -1,6 +1,9 @@
 // Whether a token that a caller hands in is there, of a kind, and a number.
 
+ghost use mathlib.Core.Path.{_≡_};
+ghost use mathlib.Core.Bool.{true};
 ghost use Rattle.wat.specs.Calls.{Stands};
+ghost use Rattle.wat_values.specs.Reading.{There};
 ghost use Rattle.lex_classes.specs.Table.{Classes};
 ghost use Rattle.read_token.specs.Here.{Here, Taken, HereNumber};
 use lex_entry::Entry;
@@ -22,11 +25,33 @@ pub fn present(text: &[u8], token: Token, t: &[u8; 256]) -> TokenCheck
     requires { ⌜ Classes (now t) ⌝ }
     ensures { λ r. ⌜ Here (now (text .entry)) token r ⌝ }
 {
+    if alone(text, token, t) {
+        return TokenCheck::There;
+    }
     let offset = token.offset;
     match lex_entry::check(text, offset) {
         Entry::Rejected { refusal, place } => TokenCheck::Refused { refusal, place },
         Entry::Stands => present_at(text, token, t),
     }
+}
+
+// Whether the token is the whole of the text, and a word or a plain string, and so is there: no other check is needed.
+fn alone(text: &[u8], token: Token, t: &[u8; 256]) -> bool
+    requires { ⌜ Classes (now t) ⌝ }
+    ensures { λ r. ⌜ (r ≡ true → There (now (text .entry)) token) ⌝ }
+{
+    let n = text.len();
+    if token.offset != 0 {
+        return false;
+    }
+    if Token::MAX_TEXT < n {
+        return false;
+    }
+    if token.len as usize != n {
+        return false;
+    }
+    let kind = token.kind;
+    lex_token::token_alone(text, t) == codes::kind_number(kind)
 }
 
 // 30, at an offset that stands: lexing there, leniently, gives another kind or another length, or nothing.

@@ -21,13 +21,13 @@ abbrev μ-loop : tie.MeasureT-loop
 abbrev start : tie.At-loop Inv-loop μ-loop → tie.Start Inv-loop μ-loop
 start c = c .before .before .before .before
 
-abbrev round : tie.After-parse-kind Inv-loop μ-loop → tie.At-loop Inv-loop μ-loop
+abbrev round : tie.After-step-at Inv-loop μ-loop → tie.At-loop Inv-loop μ-loop
 round c = c .before .before .before .before
 
-abbrev within-budget : tie.After-parse-kind Inv-loop μ-loop → tie.Else1 Inv-loop μ-loop
+abbrev within-budget : tie.After-step-at Inv-loop μ-loop → tie.Else1 Inv-loop μ-loop
 within-budget c = c .before .before
 
-abbrev stepped : tie.Else2 Inv-loop μ-loop → tie.After-parse-kind Inv-loop μ-loop
+abbrev stepped : tie.Else2 Inv-loop μ-loop → tie.After-step-at Inv-loop μ-loop
 stepped c = c .before .before
 
 abbrev room : tie.After-slice-known2 Inv-loop μ-loop → tie.Else3 Inv-loop μ-loop
@@ -45,8 +45,8 @@ same-length c = search needs
 returns : tie.Need-returns Inv-loop μ-loop
 returns c = let l = c .before .before in goes-budget (start l .pre) (l .loop .inv .0) (omega (arith, c .before .loop-test)) (c .if1 .taken)
 
-parse-kind-requires : tie.Need-parse-kind-requires Inv-loop μ-loop
-parse-kind-requires c κs =
+step-at-requires : tie.Need-step-at-requires Inv-loop μ-loop
+step-at-requires c κs =
     let l = c .before .before .before in
     (omega arith, (l .loop .inv .0 .walked .stands .between, l .before .table .ensures))
 
@@ -63,7 +63,7 @@ returns-2 c =
     let none = c .before .before in
     let step = none .before .before in
     let l = round step in
-    goes-refused (start l .pre) (l .loop .inv .0) (step .parse-kind .ensures) (omega arith) (within-budget step .if1 .left)
+    goes-refused (start l .pre) (l .loop .inv .0) (step .step-at .ensures) (omega arith) (within-budget step .if1 .left)
     (none .if2 .taken)
     (c .fault-at .ensures)
 
@@ -77,17 +77,17 @@ returns-3 : tie.Need-returns-3 Inv-loop μ-loop
 returns-3 c =
     let step = stepped (c .before) in
     let l = round step in
-    goes-full (start l .pre) (l .loop .inv .0) (step .parse-kind .ensures) (within-budget step .if1 .left) (c .before .if2 .left)
+    goes-full (start l .pre) (l .loop .inv .0) (step .step-at .ensures) (within-budget step .if1 .left) (c .before .if2 .left)
     (l .loop .inv .1)
     (c .if3 .taken)
 
 sub-put-record : tie.Need-sub-put-record Inv-loop μ-loop
 sub-put-record c =
     let some = c .before .before .before in
-    omega (arith, stepped some .parse-kind .ensures .onward (some .if2 .left))
+    omega (arith, stepped some .step-at .ensures .onward (some .if2 .left))
 
 put-record-requires : tie.Need-put-record-requires Inv-loop μ-loop
-put-record-requires c κs = (omega arith, omega (arith, stepped (c .before .before .before) .parse-kind .ensures .within))
+put-record-requires c κs = (omega arith, omega (arith, stepped (c .before .before .before) .step-at .ensures .within))
 
 add-used : tie.Need-add-used Inv-loop μ-loop
 add-used c = omega arith
@@ -99,14 +99,14 @@ loop-less : tie.Need-loop-less Inv-loop μ-loop
 loop-less c =
     let some = room c .before in
     let step = stepped some in
-    omega (arith, step .parse-kind .ensures .onward (some .if2 .left), step .parse-kind .ensures .within)
+    omega (arith, step .step-at .ensures .onward (some .if2 .left), step .step-at .ensures .within)
 
 loop-again : tie.Need-loop-again Inv-loop μ-loop
 loop-again c =
     let some = room c .before in
     let step = stepped some in
     let l = round step in (
-      goes-stepped (start l .pre) (l .loop .inv .0) _ (step .parse-kind .ensures) (within-budget step .if1 .left) (some .if2 .left)
+      goes-stepped (start l .pre) (l .loop .inv .0) _ (step .step-at .ensures) (within-budget step .if1 .left) (some .if2 .left)
           (l .loop .inv .1)
           (omega arith) (c .before .before .put-record .ensures),
       omega (arith, l .loop .inv .1),
@@ -128,7 +128,7 @@ list-from-spec =
     loop-holds
     same-length
     returns
-    parse-kind-requires
+    step-at-requires
     fault-at-requires
     same-length-2
     returns-2
