@@ -32,6 +32,9 @@ const TELLING: [&str; 30] = [
 /// The bindings are asked for texts of at most so many of these symbols.
 const MOST_OF_BINDINGS: usize = 3;
 
+/// One in so many random texts is followed by two long ones, of which more is alike than is looked at together.
+const LONG_ONES: usize = 5;
+
 /// The texts are shared out in so many parts, each with random numbers of its own, and the threads take one after the other: what is compared
 /// does not depend on the machine.
 const SHARES: u64 = 32;
@@ -118,6 +121,12 @@ fn share(options: &Options, which: u64) -> Counts {
         let bytes = chance.bytes(limit);
         counts.text(&bytes, &mut chance);
         counts.items += bindings::bytes(&bytes);
+        if chance.below(LONG_ONES) == 0 {
+            let text = chance.long();
+            counts.text(text.as_bytes(), &mut chance);
+            counts.items += bindings::text(&text, counts.texts);
+            counts.text(&chance.long_bytes(), &mut chance);
+        }
     }
     counts
 }

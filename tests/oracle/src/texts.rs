@@ -17,6 +17,30 @@ const ESCAPED: &[&str] = &[
     "fffffff", "ffffffff", "100000000", "fffffffff", "1", "41", "e9",
 ];
 
+/// What a long text begins with, is filled with and ends with: more than is looked at together.
+const LONG: &[[&str; 3]] = &[
+    [";;", "a", "\n"],
+    [";;", "é", "\r"],
+    ["(;", "a", ";)"],
+    ["(;", ";", ";)"],
+    ["(;", "(", ";)"],
+    ["(;(;", "…", ";);)"],
+    ["\"", "a", "\""],
+    ["$\"", "語", "\""],
+    ["\"", "😀", "\" "],
+    ["", " ", "x"],
+    ["(", "\n", ")"],
+    ["", "a", " "],
+    ["-", "7", " "],
+    ["0x", "f", "_1 "],
+];
+
+/// What may stand anywhere in it.
+const PIECES: &[&str] = &[
+    "(;", ";)", ";", "(", ")", "\n", "\r", "\"", "\\", "\\n", " ", "_", "\0", "\u{7f}", "\u{2026}", "\u{202a}",
+    "\u{202c}", "\u{202e}", "\u{2066}", "\u{206a}", "\u{206c}", "€", "\u{800}", "\u{d7ff}", "😀", "\u{10ffff}",
+];
+
 /// First bytes and later bytes of characters on both sides of each edge of the table of well-formed sequences.
 const LEADS: [u8; 15] = [0x7f, 0xc1, 0xc2, 0xdf, 0xe0, 0xe1, 0xec, 0xed, 0xee, 0xef, 0xf0, 0xf1, 0xf3, 0xf4, 0xf5];
 const TRAILS: [u8; 8] = [0x7f, 0x80, 0x8f, 0x90, 0x9f, 0xa0, 0xbf, 0xc0];
@@ -51,6 +75,27 @@ impl Texts {
             text.pop();
         }
         text
+    }
+
+    /// A text of some hundred bytes that is mostly one run, with telling pieces at any place of it.
+    pub fn long(&mut self) -> String {
+        let [open, fill, close] = self.pick(LONG);
+        let mut text = format!("{open}{}{close}", fill.repeat(self.below(160 / fill.len())));
+        for _ in 0..self.below(4) {
+            let at = self.boundary(&text);
+            text.insert_str(at, self.pick(PIECES));
+        }
+        text
+    }
+
+    /// The bytes of such a text, one of them another.
+    pub fn long_bytes(&mut self) -> Vec<u8> {
+        let mut bytes = self.long().into_bytes();
+        if !bytes.is_empty() {
+            let at = self.below(bytes.len());
+            bytes[at] = if self.one_in(2) { self.pick(&LEADS) } else { self.pick(&TRAILS) };
+        }
+        bytes
     }
 
     /// At most `limit` bytes: characters, and sequences that miss one narrowly, some of them cut or run into each other.
