@@ -1,15 +1,18 @@
-//! Thallusweb's speed beside that of the Rust original: the same texts, one process, the two in turn, the best of several.
-//! What is printed is the ratio of the times, ours to the Rust's.
+//! Thallusweb's speed beside that of the Rust original: the same texts, one process, all in turn, the best of several.
+//! A ratio is our time over the Rust's.
 
 #[rustfmt::skip]
 #[allow(clippy::all, dead_code)]
 #[path = "../../docs/src/src/lexer.rs"]
 mod lexer;
+mod texts;
 
 use lexer::Lexer;
+use std::cell::RefCell;
 use std::hint::black_box;
 use std::time::{Duration, Instant};
-use thallusweb::lexer::{Lexer as Ours, Listed, Reader, Stop, check_utf8};
+use texts::{Piece, TEXTS, text};
+use thallusweb::lexer::{Lexer as Ours, Listed, Reader, Stop, Token, TokenKind, check_utf8};
 
 mod token {
     pub struct Span {
@@ -27,178 +30,63 @@ impl Error {
     }
 }
 
-/// A generator of numbers, the same in each run.
-struct Chance(u64);
-
-impl Chance {
-    fn below(&mut self, n: u64) -> u64 {
-        self.0 ^= self.0 << 13;
-        self.0 ^= self.0 >> 7;
-        self.0 ^= self.0 << 17;
-        self.0 % n
-    }
-
-    fn pick<'a>(&mut self, words: &[&'a str]) -> &'a str {
-        words[self.below(words.len() as u64) as usize]
-    }
-}
-
-/// A text of at most `size` bytes, made of whole pieces.
-fn text(size: usize, piece: fn(&mut Chance, &mut String)) -> String {
-    let mut chance = Chance(0x9e37_79b9_7f4a_7c15);
-    let mut text = String::with_capacity(size + 4096);
-    let mut end = 0;
-    while text.len() <= size {
-        end = text.len();
-        piece(&mut chance, &mut text);
-    }
-    text.truncate(end);
-    text
-}
-
-fn whitespace(chance: &mut Chance, text: &mut String) {
-    for _ in 0..chance.below(60) + 4 {
-        text.push_str(chance.pick(&[" ", " ", "  ", "\n", "\t", "        "]));
-    }
-    text.push_str(chance.pick(&["(", ")", "x"]));
-}
-
-fn comments(chance: &mut Chance, text: &mut String) {
-    let block = chance.below(2) == 0;
-    text.push_str(if block { "(; " } else { ";; " });
-    for _ in 0..chance.below(16) + 2 {
-        text.push_str(chance.pick(&[
-            "merge ",
-            "the ",
-            "upper ",
-            "layer ",
-            "over ",
-            "files, ",
-            "whiteout ",
-            "and (so) on ",
-        ]));
-    }
-    text.push_str(if block { ";)\n" } else { "\n" });
-}
-
-fn numbers(chance: &mut Chance, text: &mut String) {
-    match chance.below(5) {
-        0 => text.push_str(&format!("{}", chance.below(1000))),
-        1 => text.push_str(&format!("-{}", chance.below(1 << 40))),
-        2 => text.push_str(&format!("0x{:x}", chance.below(1 << 32))),
-        3 => text.push_str(&format!(
-            "{}.{}e-{}",
-            chance.below(100),
-            chance.below(10_000),
-            chance.below(30)
-        )),
-        _ => text.push_str(&format!("{}_{:03}", chance.below(1000), chance.below(1000))),
-    }
-    text.push(' ');
-}
-
-fn ordinary(chance: &mut Chance, text: &mut String) {
-    text.push_str("  (func $f");
-    text.push_str(&chance.below(10_000).to_string());
-    text.push_str(" (param $x i32) (result i32)\n    local.get $x ;; the argument\n    i32.const ");
-    text.push_str(&chance.below(1 << 20).to_string());
-    text.push_str("\n    i32.add\n    call $");
-    text.push_str(chance.pick(&["merge", "whiteout", "copy_up", "opaque"]));
-    text.push_str(")\n  (data (i32.const 8) \"layer\\00\\ff upper\")\n");
-}
-
-fn foreign(chance: &mut Chance, text: &mut String) {
-    text.push_str(";; ");
-    for _ in 0..chance.below(12) + 4 {
-        text.push_str(chance.pick(&[
-            "слой ",
-            "層を重ねる ",
-            "fusión ",
-            "합치기 ",
-            "Überlagerung ",
-            "层 ",
-        ]));
-    }
-    text.push_str("\n(import \"слой\" \"層\" (func $f))\n");
-}
-
-/// The best time of each of two functions, run in turn.
-fn best(rounds: u32, mut ours: impl FnMut(), mut theirs: impl FnMut()) -> (Duration, Duration) {
-    let mut times = (Duration::MAX, Duration::MAX);
+/// The best time of each of several functions, run in turn.
+fn best<const N: usize>(rounds: u32, mut functions: [&mut dyn FnMut(); N]) -> [Duration; N] {
+    let mut times = [Duration::MAX; N];
     for _ in 0..rounds {
-        let began = Instant::now();
-        ours();
-        times.0 = times.0.min(began.elapsed());
-        let began = Instant::now();
-        theirs();
-        times.1 = times.1.min(began.elapsed());
+        for (time, function) in times.iter_mut().zip(&mut functions) {
+            let began = Instant::now();
+            function();
+            *time = began.elapsed().min(*time);
+        }
     }
     times
 }
 
-fn report(what: &str, size: usize, (ours, theirs): (Duration, Duration)) {
-    let speed = |time: Duration| size as f64 / time.as_secs_f64() / 1e6;
-    let ratio = ours.as_secs_f64() / theirs.as_secs_f64();
-    println!(
-        "{what:34} {:>4.0} MiB  {ratio:>5.2}   {:>7.0} and {:>7.0} MB/s",
-        size as f64 / 1048576.0,
-        speed(ours),
-        speed(theirs)
-    );
+fn ratio(ours: Duration, theirs: Duration) -> f64 {
+    ours.as_secs_f64() / theirs.as_secs_f64()
 }
 
+fn speed(size: usize, time: Duration) -> f64 {
+    size as f64 / time.as_secs_f64() / 1e6
+}
+
+const SIZES: [usize; 3] = [1 << 20, 4 << 20, 16 << 20];
+
 fn main() {
-    let rounds = std::env::args()
-        .nth(1)
+    let mut arguments = std::env::args().skip(1);
+    let rounds = arguments
+        .next()
         .map_or(9, |word| word.parse().expect("a number of rounds"));
-    println!("{:34} {:>8}  ratio   ours and the Rust's", "", "text");
-    type Piece = fn(&mut Chance, &mut String);
-    let kinds: [(&str, Piece); 5] = [
-        ("whitespace", whitespace),
-        ("comments", comments),
-        ("numbers", numbers),
-        ("ordinary WAT", ordinary),
-        ("much non-ASCII", foreign),
-    ];
-    for (name, piece) in kinds {
-        let largest = text(16 << 20, piece);
-        let check = best(
-            rounds,
-            || _ = black_box(check_utf8(black_box(largest.as_bytes()))),
-            || _ = black_box(std::str::from_utf8(black_box(largest.as_bytes()))),
-        );
-        assert_eq!(check_utf8(largest.as_bytes()), Ok(()));
-        report(&format!("UTF-8 check, {name}"), largest.len(), check);
+    // of the listings those whose name has the second word, and nothing else; all where there is none
+    let only = arguments.next();
+    listings(rounds, only.as_deref().unwrap_or(""));
+    if only.is_some() {
+        return;
     }
-    for (name, piece) in kinds {
-        for size in [1 << 20, 4 << 20, 16 << 20] {
-            let text = text(size, piece);
-            let mut list = vec![0u8; 6 * text.len()];
-            let mut tokens: Vec<lexer::Token> = Vec::with_capacity(text.len());
-            let mut listed = None;
-            let times = best(
-                rounds,
-                || listed = Some(Ours::new(black_box(&text)).list(0, usize::MAX, &mut list)),
-                || {
-                    tokens.clear();
-                    let lexer = Lexer::new(black_box(&text));
-                    let mut pos = 0;
-                    while let Some(token) = lexer.parse(&mut pos).expect("a text that lexes") {
-                        tokens.push(token);
-                    }
-                },
-            );
-            let whole = Listed {
-                stop: Stop::End,
-                count: tokens.len(),
-                position: text.len(),
-            };
-            assert_eq!(listed, Some(whole), "{name}");
-            report(&format!("listing, {name}"), text.len(), times);
-        }
+    short_file(rounds);
+    for (name, piece) in [
+        ("ordinary WAT", texts::ordinary as Piece),
+        ("varied WAT", texts::varied),
+    ] {
+        listed_and_read(rounds, name, piece);
     }
-    // one call for each token or error: in line with the text, so that four times the text takes four times as long
-    for (name, piece) in [("ordinary WAT", ordinary as Piece), ("errors", errors)] {
+    println!("\none read of a token of five bytes    ratio   ns, ours and the Rust's");
+    for (text, reader) in [
+        ("local", Reader::Src),
+        ("12345", Reader::Integer),
+        ("$name", Reader::Id),
+        ("\"abc\"", Reader::String),
+    ] {
+        one_read(rounds, text, reader);
+    }
+    println!(
+        "\none call for each token or error     ratio   MB/s, ours and the Rust's; 4 MiB beside 1"
+    );
+    for (name, piece) in [
+        ("ordinary WAT", texts::ordinary as Piece),
+        ("errors", texts::errors),
+    ] {
         let texts = [text(1 << 20, piece), text(4 << 20, piece)];
         grows(
             &format!("parse in a loop, {name}"),
@@ -212,14 +100,185 @@ fn main() {
             Lexer::new(text).iter(0).count()
         });
     }
-    for (text, reader) in [
-        ("local", Reader::Src),
-        ("12345", Reader::Integer),
-        ("$name", Reader::Id),
-        ("\"abc\"", Reader::String),
-    ] {
-        one_read(rounds, text, reader);
+    println!("\nUTF-8 check, 16 MiB                  ratio   MB/s, ours and std's");
+    for (name, piece) in TEXTS {
+        utf8_check(rounds, name, piece);
     }
+}
+
+/// The listing beside `parse` in a loop, and beside the same on bytes, which `from_utf8` checks first.
+fn listings(rounds: u32, only: &str) {
+    println!(
+        "                                     ratio to the Rust   after from_utf8     MB/s at 16 MiB: ours,"
+    );
+    println!(
+        "listing of 1, 4 and 16 MiB              1    4   16        1    4   16     the Rust, after from_utf8"
+    );
+    for (name, piece) in TEXTS {
+        if !name.contains(only) {
+            continue;
+        }
+        let mut list = vec![0u8; 6 * SIZES[2]];
+        let tokens = RefCell::new(Vec::with_capacity(SIZES[2]));
+        let times = SIZES.map(|size| {
+            let text = text(size, piece);
+            let mut listed = None;
+            let times = best(
+                rounds,
+                [
+                    &mut || {
+                        listed = Some(Ours::new(black_box(&text)).list(0, usize::MAX, &mut list))
+                    },
+                    &mut || all_tokens(black_box(&text), &tokens),
+                    &mut || all_tokens(checked(black_box(text.as_bytes())), &tokens),
+                ],
+            );
+            let whole = Listed {
+                stop: Stop::End,
+                count: tokens.borrow().len(),
+                position: text.len(),
+            };
+            assert_eq!(listed, Some(whole), "{name}");
+            (text.len(), times)
+        });
+        let to = |other: usize| {
+            times
+                .map(|(_, times)| format!("{:.2}", ratio(times[0], times[other])))
+                .join(" ")
+        };
+        let (size, last) = times[2];
+        let [ours, theirs, checked] = last.map(|time| speed(size, time));
+        println!(
+            "{name:36} {}      {}     {ours:>6.0} {theirs:>6.0} {checked:>6.0}",
+            to(1),
+            to(2)
+        );
+    }
+}
+
+/// All tokens of a text, by the original.
+fn all_tokens(text: &str, tokens: &RefCell<Vec<lexer::Token>>) {
+    let mut tokens = tokens.borrow_mut();
+    tokens.clear();
+    let lexer = Lexer::new(text);
+    let mut position = 0;
+    while let Some(token) = lexer.parse(&mut position).expect("a text that lexes") {
+        tokens.push(token);
+    }
+}
+
+/// Bytes as a text, which the original must be given.
+fn checked(bytes: &[u8]) -> &str {
+    std::str::from_utf8(bytes).expect("UTF-8")
+}
+
+/// The listing of a file of 100 bytes.
+fn short_file(rounds: u32) {
+    const CALLS: u32 = 10_000;
+    let mut list = [0u8; 6 * texts::RULE.len()];
+    let tokens = RefCell::new(Vec::with_capacity(texts::RULE.len()));
+    let repeat =
+        |call: &mut dyn FnMut(&'static str)| (0..CALLS).for_each(|_| call(black_box(texts::RULE)));
+    let times = best(
+        rounds.max(9),
+        [
+            &mut || {
+                repeat(&mut |text| _ = black_box(Ours::new(text).list(0, usize::MAX, &mut list)))
+            },
+            &mut || repeat(&mut |text| all_tokens(text, &tokens)),
+            &mut || repeat(&mut |text| all_tokens(checked(text.as_bytes()), &tokens)),
+        ],
+    );
+    let [ours, theirs, checked] = times.map(|time| (time / CALLS).as_nanos());
+    println!(
+        "{:36} {:.2}                {:.2}           ns: {ours} {theirs} {checked}",
+        "a rule file of 100 bytes",
+        ratio(times[0], times[1]),
+        ratio(times[0], times[2]),
+    );
+}
+
+/// The listing, and then a read of each word, number, name and string on its own bytes, beside the original's tokens and readers.
+fn listed_and_read(rounds: u32, name: &str, piece: Piece) {
+    let text = text(4 << 20, piece);
+    let mut list = vec![0u8; 6 * text.len()];
+    let tokens = RefCell::new(Vec::with_capacity(text.len()));
+    let (mut ours_read, mut theirs_read) = (0, 0);
+    let [ours, theirs] = best(
+        rounds,
+        [
+            &mut || {
+                let count = Ours::new(black_box(&text))
+                    .list(0, usize::MAX, &mut list)
+                    .count;
+                ours_read = read_listed(&text, &list[..6 * count]);
+            },
+            &mut || {
+                all_tokens(black_box(&text), &tokens);
+                theirs_read = tokens
+                    .borrow()
+                    .iter()
+                    .filter(|token| read_by_the_original(token, &text))
+                    .count();
+            },
+        ],
+    );
+    assert_eq!(ours_read, theirs_read, "{name}");
+    println!(
+        "{:36} {:.2}               {:>7.0} {:>6.0} MB/s, {theirs_read} reads",
+        format!("listed and read, {name}"),
+        ratio(ours, theirs),
+        speed(text.len(), ours),
+        speed(text.len(), theirs),
+    );
+}
+
+/// Reads each token of a list that is a word, a number, a name or a string, each on its own bytes; says how many these are.
+fn read_listed(text: &str, list: &[u8]) -> usize {
+    let (mut offset, mut reads) = (0, 0);
+    for record in list.chunks_exact(6) {
+        let len = u32::from_le_bytes([record[0], record[1], record[2], record[3]]);
+        let number = u16::from_le_bytes([record[4], record[5]]);
+        let at = offset;
+        offset += len as usize;
+        // comments, white space and parentheses are not read
+        if number <= 5 {
+            continue;
+        }
+        let kind = TokenKind::from_number(number.into()).expect("a kind");
+        let token = Token {
+            kind,
+            offset: at,
+            len,
+        };
+        reads += 1;
+        match kind {
+            TokenKind::Keyword | TokenKind::Reserved => {
+                _ = black_box(token.read(text, Reader::Src))
+            }
+            TokenKind::Id => _ = black_box(token.id(text)),
+            TokenKind::Annotation => _ = black_box(token.annotation(text)),
+            TokenKind::String => _ = black_box(token.string(text)),
+            TokenKind::Integer(kind) => _ = black_box(token.integer(text, kind)),
+            TokenKind::Float(kind) => _ = black_box(token.float(text, kind)),
+            _ => unreachable!("{kind:?}"),
+        }
+    }
+    reads
+}
+
+/// The same of one token by the original.
+fn read_by_the_original(token: &lexer::Token, text: &str) -> bool {
+    match token.kind {
+        lexer::TokenKind::Keyword | lexer::TokenKind::Reserved => _ = black_box(token.src(text)),
+        lexer::TokenKind::Id => _ = black_box(token.id(text)),
+        lexer::TokenKind::Annotation => _ = black_box(token.annotation(text)),
+        lexer::TokenKind::String => _ = black_box(token.string(text)),
+        lexer::TokenKind::Integer(kind) => _ = black_box(token.integer(text, kind)),
+        lexer::TokenKind::Float(kind) => _ = black_box(token.float(text, kind)),
+        _ => return false,
+    }
+    true
 }
 
 /// The time of one read of a token that is the whole of a short text.
@@ -233,33 +292,20 @@ fn one_read(rounds: u32, text: &str, reader: Reader) {
         .parse(&mut 0)
         .expect("a token")
         .expect("a token");
-    let (ours, theirs) = best(
+    let [ours, theirs] = best(
         rounds,
-        || (0..READS).for_each(|_| _ = black_box(token.read(black_box(text), reader))),
-        || (0..READS).for_each(|_| read_by_the_original(original, black_box(text))),
+        [
+            &mut || (0..READS).for_each(|_| _ = black_box(token.read(black_box(text), reader))),
+            &mut || (0..READS).for_each(|_| _ = read_by_the_original(&original, black_box(text))),
+        ],
     );
     println!(
-        "{:34} {:>3} bytes  {:>5.2}   {:>7} and {:>7} ns",
+        "{:36} {:>5.2} {:>10} {:>6}",
         format!("one read, {text}"),
-        text.len(),
-        ours.as_secs_f64() / theirs.as_secs_f64(),
+        ratio(ours, theirs),
         (ours / READS).as_nanos(),
         (theirs / READS).as_nanos()
     );
-}
-
-fn read_by_the_original(token: lexer::Token, text: &str) {
-    match token.kind {
-        lexer::TokenKind::Id => _ = black_box(token.id(text)),
-        lexer::TokenKind::String => _ = black_box(token.string(text)),
-        lexer::TokenKind::Integer(kind) => _ = black_box(token.integer(text, kind)),
-        _ => _ = black_box(token.src(text)),
-    }
-}
-
-/// A string that is refused at its escape; lexing goes on behind it.
-fn errors(_: &mut Chance, text: &mut String) {
-    text.push_str("\"\\q");
 }
 
 fn parsed(text: &str) -> usize {
@@ -288,16 +334,38 @@ fn grows(
 ) {
     let times = texts.each_ref().map(|text| {
         assert_eq!(ours(text), original(text), "{name}");
-        let times = best(
+        best(
             rounds,
-            || _ = black_box(ours(black_box(text))),
-            || _ = black_box(original(black_box(text))),
-        );
-        report(name, text.len(), times);
-        times.0.as_secs_f64()
+            [&mut || _ = black_box(ours(black_box(text))), &mut || {
+                _ = black_box(original(black_box(text)))
+            }],
+        )
     });
+    let [ours, theirs] = times[1];
     println!(
-        "{name}: 4 MiB take {:.1} times as long as 1",
-        times[1] / times[0]
+        "{name:36} {:>5.2} {:>10.0} {:>6.0}   {:.1} times as long",
+        ratio(ours, theirs),
+        speed(texts[1].len(), ours),
+        speed(texts[1].len(), theirs),
+        ratio(times[1][0], times[0][0])
+    );
+}
+
+/// The check of a text beside `std::str::from_utf8`.
+fn utf8_check(rounds: u32, name: &str, piece: Piece) {
+    let text = text(SIZES[2], piece);
+    let [ours, theirs] = best(
+        rounds,
+        [
+            &mut || _ = black_box(check_utf8(black_box(text.as_bytes()))),
+            &mut || _ = black_box(std::str::from_utf8(black_box(text.as_bytes()))),
+        ],
+    );
+    assert_eq!(check_utf8(text.as_bytes()), Ok(()));
+    println!(
+        "{name:36} {:>5.2} {:>10.0} {:>6.0}",
+        ratio(ours, theirs),
+        speed(text.len(), ours),
+        speed(text.len(), theirs)
     );
 }

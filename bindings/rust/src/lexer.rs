@@ -253,8 +253,7 @@ impl TokenKind {
     /// ```
     #[must_use]
     pub fn from_number(number: u64) -> Option<TokenKind> {
-        let [plus, negative, has_underscores, hex] = [PLUS, MINUS, UNDERSCORES, HEX].map(|flag| number & flag != 0);
-        let kind = match number % 256 {
+        Some(match number {
             1 => TokenKind::LineComment,
             2 => TokenKind::BlockComment,
             3 => TokenKind::Whitespace,
@@ -265,6 +264,14 @@ impl TokenKind {
             8 => TokenKind::Keyword,
             9 => TokenKind::Annotation,
             10 => TokenKind::Reserved,
+            _ => return TokenKind::number_from(number),
+        })
+    }
+
+    /// The same for a kind that carries how a number is written.
+    fn number_from(number: u64) -> Option<TokenKind> {
+        let [plus, negative, has_underscores, hex] = [PLUS, MINUS, UNDERSCORES, HEX].map(|flag| number & flag != 0);
+        let kind = match number % 256 {
             11 => {
                 let sign = match (plus, negative) {
                     (true, _) => Some(SignToken::Plus),
@@ -562,6 +569,9 @@ fn text(bytes: Cow<'_, [u8]>) -> Cow<'_, str> {
     }
 }
 
+/// A copy of up to so many bytes is read into a buffer on the stack first.
+const SHORT: usize = 64;
+
 impl Token {
     /// What a reader gives of the token, which is one of the text; nothing for a part that its kind lacks. Takes the time of
     /// the token and not of the text.
@@ -586,21 +596,20 @@ impl Token {
         let end = self.offset.checked_add(self.len as usize).ok_or_else(not_there)?;
         let own = s.get(self.offset..end).ok_or_else(not_there)?.as_bytes();
         let token = [self.kind.number(), 0, self.len.into()];
-        let mut buffer = Vec::new();
-        let [mut what, mut start, mut len, mut first, mut second] = ffi::read(own, reader as u64, token, &mut buffer);
+        let (mut short, mut long) = ([0; SHORT], Vec::new());
+        let mut buffer = &mut short[..];
+        let [mut what, mut start, mut len, mut first, mut second] = ffi::read(own, reader as u64, token, buffer);
         if (what, start) == (2, 32) {
             // a buffer as long as the token holds every copy
-            buffer.resize(own.len(), 0);
-            [what, start, len, first, second] = ffi::read(own, reader as u64, token, &mut buffer);
+            long.resize(own.len(), 0);
+            buffer = &mut long[..];
+            [what, start, len, first, second] = ffi::read(own, reader as u64, token, buffer);
         }
         let part = start as usize..start.saturating_add(len) as usize;
         match what {
             0 => Ok(None),
             1 => Ok(own.get(part).map(Cow::Borrowed)),
-            3 => {
-                buffer.truncate(part.end);
-                Ok(Some(Cow::Owned(buffer)))
-            }
+            3 => Ok(buffer.get(part).map(|copy| Cow::Owned(copy.to_vec()))),
             _ => Err(Error::from_words([start, len, first, second]).moved(self.offset)),
         }
     }
@@ -681,12 +690,17 @@ impl Token {
             FloatKind::Inf { negative } => Float::Inf { negative },
             FloatKind::Nan { negative } => Float::Nan { val: None, negative },
             FloatKind::NanVal { negative, .. } => Float::Nan { val: token.part(s, Reader::Payload), negative },
-            FloatKind::Normal { hex, .. } => Float::Val {
-                hex,
-                integral: token.part(s, Reader::Integral).unwrap_or_default(),
-                fractional: token.part(s, Reader::Fraction),
-                exponent: token.part(s, Reader::Exponent),
-            },
+            FloatKind::Normal { hex, .. } => {
+                // a part whose mark is not there is absent, and need not be asked for
+                let part =
+                    |marks: &[char], reader| self.src(s).contains(marks).then(|| token.part(s, reader)).flatten();
+                Float::Val {
+                    hex,
+                    integral: token.part(s, Reader::Integral).unwrap_or_default(),
+                    fractional: part(&['.'], Reader::Fraction),
+                    exponent: part(if hex { &['p', 'P'] } else { &['e', 'E'] }, Reader::Exponent),
+                }
+            }
         }
     }
 }
