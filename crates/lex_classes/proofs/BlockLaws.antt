@@ -87,7 +87,8 @@ module _ (f : ℕ → Bool) (i n : ℕ) where
 
 module _ (test : ℕ → Bool) (s : List ℕ) (i j : ℕ) (h : i ≤ j) (l : j ≤ length s) where
   -- where a place that does not pass has a byte that passes the test as `b`
-  clear-passed : (b : Bool) (f : ℕ → Bool) → ((k : ℕ) → f k ≡ false → test (getD s k 0) ≡ b) → Clear f i j → Passed test b s i j
+  clear-passed : (b : Bool) (f : ℕ → Bool) → ((k : ℕ) → f k ≡ false → test (getD s k 0) ≡ b) → Clear f i j
+      → Passed test b s i j
   clear-passed b f t p =
       clear-carries (λ k. Passed test b s i k) f i j h p (passed-none test b s i (omega arith))
       (λ k z q e. passed-one test b s i k q (omega (arith, z)) (t k e))

@@ -33,7 +33,8 @@ count-at test b [] k h = absurd (omega arith)
 count-at test b (x ∷ s) k h = go b (test x) refl k h (count-at test b s)
   where
     go :
-        (b c : Bool) → test x ≡ c → (k : ℕ) → k < count test b (x ∷ s) → ((j : ℕ) → j < count test b s → test (getD s j 0) ≡ b)
+        (b c : Bool) → test x ≡ c → (k : ℕ) → k < count test b (x ∷ s)
+        → ((j : ℕ) → j < count test b s → test (getD s j 0) ≡ b)
         → test (getD (x ∷ s) k 0) ≡ b
     go true true e zero h ih = e
     go true true e (suc k) h ih = ih k (let q : suc k < suc (count test true s) = rw (e, count) at h in omega arith)

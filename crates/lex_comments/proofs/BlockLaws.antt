@@ -98,7 +98,8 @@ ends-plain l x (y ∷ t) e = ap (further 1) (go (eqb x (byte "(")) (eqb x (byte 
     none-of : (eqb x (byte "(") && eqb y (byte ";") ≡ false) × (eqb x (byte ";") && eqb y (byte ")") ≡ false)
     none-of = or-no (eqb x (byte "(") && eqb y (byte ";")) (eqb x (byte ";") && eqb y (byte ")")) e
 
-    go : (a b : Bool) → eqb x (byte "(") ≡ a → eqb x (byte ";") ≡ b → ends (opens x) l (y ∷ t) ≡ further 1 (ends (opens y) l t)
+    go : (a b : Bool) → eqb x (byte "(") ≡ a → eqb x (byte ";") ≡ b
+        → ends (opens x) l (y ∷ t) ≡ further 1 (ends (opens y) l t)
     go true b p q = let z : eqb y (byte ";") ≡ false = rw p at (none-of .0) in rw (p, z, opens, ends)
     go false true p q = let z : eqb y (byte ")") ≡ false = rw q at (none-of .1) in rw (p, q, z, opens, ends)
     go false false p q = rw (p, q, opens, ends)

@@ -65,7 +65,8 @@ module _ (f : List ℕ → ℕ → Bool) (s : List ℕ) (at : ℕ) where
       sought-then r q = record { passed = without-then r (q .passed); stops = q .stops }
 
       -- in a block
-      pub sought-block : (n r : ℕ) → i + n ≤ length s → First (f s) i n r → r < n → (f s (i + r) ≡ true → g s (i + r) ≡ true)
+      pub sought-block : (n r : ℕ) → i + n ≤ length s → First (f s) i n r → r < n
+          → (f s (i + r) ≡ true → g s (i + r) ≡ true)
           → Sought f g s at to (i + r)
       sought-block n r l q h t =
           record {

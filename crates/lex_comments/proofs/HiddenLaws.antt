@@ -70,7 +70,8 @@ in-here : (i to c : ℕ) → i < to → hiddenIn i to (found 0 c) ≡ Found i c
 in-here i to c l = ap (λ (m : ℕ). before to m c) (add-zero i) ∙ rw (lt-ltb i to l, before)
 
 -- a search for 0xE2 passes what may hide a character
-pub led-sought : (s : List ℕ) (at to r : ℕ) → Sought (byteAt lead) (byteAt lead) s at to r → Sought confusingAt (byteAt lead) s at to r
+pub led-sought : (s : List ℕ) (at to r : ℕ) → Sought (byteAt lead) (byteAt lead) s at to r
+    → Sought confusingAt (byteAt lead) s at to r
 led-sought s at to r q =
     record {
       passed =
@@ -145,7 +146,8 @@ module _ (s : List ℕ) (from to : ℕ) where
               let c = byte-behind s (k + 1) 0 (k + 1) (omega arith) in
               let d = byte-behind s (k + 1) 1 (k + 2) (omega arith) in
               let f : confusingBytes 0xE2 (getD s (k + 1) 0) (getD s (k + 2) 0) ≡ false = rw (lead-is (getD s k 0) l) at e in
-              seen-next (ap (λ (z : List ℕ). confusing (scalar (take 3 z))) (led-drop l) ∙ led-plain (drop (k + 1) s) (led l) (rw (c, d) f))
+              let plain = led-plain (drop (k + 1) s) (led l) (rw (c, d) f) in
+              seen-next (ap (λ (z : List ℕ). confusing (scalar (take 3 z))) (led-drop l) ∙ plain)
           go false l = seen-more 1 p (omega arith) (ap glance (front s k h) ∙ glance-next (getD s k 0) (drop (k + 1) s) l)
 
   -- nothing before k is confusing

@@ -66,8 +66,8 @@ module _ (text : List ℕ) (token : Token) (s : Stands text (token .offset)) whe
         record { stands = s; lexed = subst (Lexed lenient (drop (token .offset) text)) a (lexed lenient (s .between)) }
 
 -- the whole of a text, and a word or a plain string, is there
-pub alone-there : (text : List ℕ) (token : Token) {n : ℕ} → token .offset ≡ 0 → length text ≤ most → token .len ≡ length text
-    → Alone text n → n ≡ kindNumber (token .kind) → There text token
+pub alone-there : (text : List ℕ) (token : Token) {n : ℕ} → token .offset ≡ 0 → length text ≤ most
+    → token .len ≡ length text → Alone text n → n ≡ kindNumber (token .kind) → There text token
 alone-there text token {n} o m l w e =
     let a = w (λ z. kind-some (token .kind) (sym e ∙ z)) in
     let s : Stands text 0 = record { sound = record { short = m; formed = a .formed }; within = omega arith; between = a .formed } in
