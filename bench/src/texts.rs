@@ -15,6 +15,19 @@ impl Chance {
         words[self.below(words.len() as u64) as usize]
     }
 
+    /// Some words, as `words` has them, between an opening and a closing.
+    fn wrapped(
+        &mut self,
+        text: &mut String,
+        [open, close]: [&str; 2],
+        [least, most]: [u64; 2],
+        words: &[&str],
+    ) {
+        text.push_str(open);
+        self.words(text, least, most, words);
+        text.push_str(close);
+    }
+
     /// Some words, from `least` on and fewer than `most`.
     fn words(&mut self, text: &mut String, least: u64, most: u64, words: &[&str]) {
         for _ in 0..least + self.below(most - least) {
@@ -89,24 +102,26 @@ const PLAIN: [&str; 8] = [
     "and (so) on ",
 ];
 
+const LINE: [&str; 2] = [";; ", "\n"];
+const BLOCK: [&str; 2] = ["(; ", ";)\n"];
+const DATA: [&str; 2] = ["(data \"", "\")\n"];
+
+/// The marks of a block or of a line comment.
+fn any_marks(chance: &mut Chance) -> [&'static str; 2] {
+    if chance.below(2) == 0 { BLOCK } else { LINE }
+}
+
 fn comments(chance: &mut Chance, text: &mut String) {
-    if chance.below(2) == 0 {
-        block_comments(chance, text);
-    } else {
-        line_comments(chance, text);
-    }
+    let marks = any_marks(chance);
+    chance.wrapped(text, marks, [2, 18], &PLAIN);
 }
 
 fn line_comments(chance: &mut Chance, text: &mut String) {
-    text.push_str(";; ");
-    chance.words(text, 2, 18, &PLAIN);
-    text.push('\n');
+    chance.wrapped(text, LINE, [2, 18], &PLAIN);
 }
 
 fn block_comments(chance: &mut Chance, text: &mut String) {
-    text.push_str("(; ");
-    chance.words(text, 2, 18, &PLAIN);
-    text.push_str(";)\n");
+    chance.wrapped(text, BLOCK, [2, 18], &PLAIN);
 }
 
 fn nested_comments(chance: &mut Chance, text: &mut String) {
@@ -135,37 +150,28 @@ fn comments_of_code(chance: &mut Chance, text: &mut String) {
 }
 
 fn typeset_comments(chance: &mut Chance, text: &mut String) {
-    let block = chance.below(2) == 0;
-    text.push_str(if block { "(; " } else { ";; " });
-    chance.words(
-        text,
-        2,
-        18,
-        &[
-            "merge — ",
-            "the ",
-            "“upper” ",
-            "layer’s ",
-            "over ",
-            "files… ",
-            "whiteout – ",
-            "and so on ",
-        ],
-    );
-    text.push_str(if block { ";)\n" } else { "\n" });
+    let marks = any_marks(chance);
+    let words = [
+        "merge — ",
+        "the ",
+        "“upper” ",
+        "layer’s ",
+        "over ",
+        "files… ",
+        "whiteout – ",
+        "and so on ",
+    ];
+    chance.wrapped(text, marks, [2, 18], &words);
 }
 
 fn drawn_comments(chance: &mut Chance, text: &mut String) {
-    text.push_str(";; ");
-    chance.words(text, 4, 24, &["│ ", "├── ", "└── ", "layer", "────", "✓ "]);
-    text.push('\n');
+    let words = ["│ ", "├── ", "└── ", "layer", "────", "✓ "];
+    chance.wrapped(text, LINE, [4, 24], &words);
 }
 
 /// The dots begin with the two bytes with which most confusing characters do.
 fn dotted_comments(chance: &mut Chance, text: &mut String) {
-    text.push_str(";; ");
-    chance.words(text, 4, 24, &["…", "…… ", "… ", "………"]);
-    text.push('\n');
+    chance.wrapped(text, LINE, [4, 24], &["…", "…… ", "… ", "………"]);
 }
 
 fn quoted_comments(chance: &mut Chance, text: &mut String) {
@@ -253,50 +259,34 @@ pub fn varied(chance: &mut Chance, text: &mut String) {
 }
 
 fn foreign(chance: &mut Chance, text: &mut String) {
-    text.push_str(";; ");
-    chance.words(
-        text,
-        4,
-        16,
-        &[
-            "слой ",
-            "層を重ねる ",
-            "fusión ",
-            "합치기 ",
-            "Überlagerung ",
-            "层 ",
-        ],
-    );
-    text.push_str("\n(import \"слой\" \"層\" (func $f))\n");
+    let words = [
+        "слой ",
+        "層を重ねる ",
+        "fusión ",
+        "합치기 ",
+        "Überlagerung ",
+        "层 ",
+    ];
+    chance.wrapped(text, LINE, [4, 16], &words);
+    text.push_str("(import \"слой\" \"層\" (func $f))\n");
 }
 
 fn emoji_strings(chance: &mut Chance, text: &mut String) {
-    text.push_str("(data \"");
-    chance.words(
-        text,
-        2,
-        12,
-        &["😀", "✓ done", "layer ", "— ", "🎉🎉", "“merge”"],
-    );
-    text.push_str("\")\n");
+    let words = ["😀", "✓ done", "layer ", "— ", "🎉🎉", "“merge”"];
+    chance.wrapped(text, DATA, [2, 12], &words);
 }
 
 fn foreign_strings(chance: &mut Chance, text: &mut String) {
-    text.push_str("(data \"");
-    chance.words(text, 2, 12, &["слой ", "層を重ねる", "layer ", "fusión "]);
-    text.push_str("\")\n");
+    let words = ["слой ", "層を重ねる", "layer ", "fusión "];
+    chance.wrapped(text, DATA, [2, 12], &words);
 }
 
 fn dotted_strings(chance: &mut Chance, text: &mut String) {
-    text.push_str("(data \"");
-    chance.words(text, 2, 12, &["…", "ภาษา", "ไทย ", "a…"]);
-    text.push_str("\")\n");
+    chance.wrapped(text, DATA, [2, 12], &["…", "ภาษา", "ไทย ", "a…"]);
 }
 
 fn emoji_comments(chance: &mut Chance, text: &mut String) {
-    text.push_str(";; ");
-    chance.words(text, 4, 24, &["😀", "🎉🎉", "🚀 ", "👍🏽"]);
-    text.push('\n');
+    chance.wrapped(text, LINE, [4, 24], &["😀", "🎉🎉", "🚀 ", "👍🏽"]);
 }
 
 /// A string that is refused at its escape; lexing goes on behind it.

@@ -1,5 +1,5 @@
 pub mod TableLaws
 pub mod AskLaws
 pub mod ScanLaws
-pub mod BlockLaws
+pub mod SearchLaws
 pub mod ConfusingLaws

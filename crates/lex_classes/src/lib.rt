@@ -3,7 +3,7 @@
 
 ghost use mathlib.Core.Path.{_≡_};
 ghost use mathlib.Core.Bool.{true, false, not};
-ghost use Prim.Native.Nat.{_+_, _*_, _/_, _%_, _≤_};
+ghost use Prim.Native.Nat.{_+_, _*_, _/_, _%_, min, _≤_};
 ghost use lib.ListN.{length, getD};
 ghost use Rattle.wat.specs.Numbers.{digit};
 ghost use Rattle.wat.specs.Chars.{idchar, space, letter, isScalar, control, confusing};
@@ -208,15 +208,26 @@ fn is_space(b: u8) -> bool
     (b' ' == b) | (b'\t' == b) | (b'\n' == b) | (b'\r' == b)
 }
 
-// k, or 32 for white space.
-fn unless_space(b: u8, k: u8) -> u8
-    ensures { λ r. ⌜ r ≡ placed (not (space b)) 32 k ⌝ }
+// k for a place that passes a test, and n for one that does not.
+fn place_if(passes: bool, n: u8, k: u8) -> u8
+    ensures { λ r. ⌜ r ≡ placed passes n k ⌝ }
 {
-    if is_space(b) { 32 } else { k }
+    if passes { k } else { n }
 }
 
-// How many of the 32 bytes from i on come before the first that is no white space: the least place of such a byte. No
-// branch depends on the bytes, and LLVM makes vector code of the loop.
+// The lesser of that and m. A loop over the n places of a block, from m = n on, leaves in m the first that passes: no
+// branch depends on the test, and LLVM makes vector code of it.
+pub fn lesser(passes: bool, n: u8, k: u8, m: u8) -> u8
+    ensures { λ r. ⌜ r ≡ min (placed passes n k) m ⌝ }
+{
+    let v = place_if(passes, n, k);
+    if v < m {
+        return v;
+    }
+    m
+}
+
+// How many of the 32 bytes from i on come before the first that is no white space.
 fn spaces32(s: &[u8], i: usize) -> usize
     requires { ⌜ i + 32 ≤ length (now s) ⌝ }
     ensures { λ r. ⌜ First (λ k. not (space (getD (now (s .entry)) k 0))) i 32 r ⌝ }
@@ -224,10 +235,7 @@ fn spaces32(s: &[u8], i: usize) -> usize
     let mut m: u8 = 32;
     let mut k: usize = 0;
     while k < 32 {
-        let v = unless_space(s[i + k], k as u8);
-        if v < m {
-            m = v;
-        }
+        m = lesser(!is_space(s[i + k]), 32, k as u8, m);
         k += 1;
     }
     m as usize
@@ -332,7 +340,7 @@ pub fn digits_end(s: &[u8], at: usize, t: &[u8; 256]) -> usize
 }
 
 // The place behind the raw characters from `at` on, of those that are ASCII.
-pub fn raw_end(s: &[u8], at: usize, t: &[u8; 256]) -> usize
+pub fn ascii_raw_end(s: &[u8], at: usize, t: &[u8; 256]) -> usize
     requires { ⌜ at ≤ length (now s) ⌝ }
     requires { ⌜ Classes (now t) ⌝ }
     ensures { λ r. ⌜ Scanned raw true (now (s .entry)) at r ⌝ }

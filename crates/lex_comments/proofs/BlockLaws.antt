@@ -15,7 +15,7 @@ use Rattle.wat.specs.Bytes.{byte}
 use Rattle.wat.specs.CommentModel.{fresh, further, opens, ends}
 use Rattle.wat.proofs.Blocks.{further-further}
 use Rattle.wat.proofs.Basics.{or-split, or-no, below}
-use Rattle.lex_classes.proofs.BlockLaws.{clear-carries}
+use Rattle.lex_classes.proofs.SearchLaws.{clear-carries}
 use Rattle.lex_comments.specs.Find.{Without}
 use Rattle.lex_comments.specs.Ends.{mark, markAt, endOf, BlockEnd}
 use Rattle.lex_comments.proofs.FindLaws.{front, byte-behind, without-then}

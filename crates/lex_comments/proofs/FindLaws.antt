@@ -13,7 +13,7 @@ use Rattle.wat.specs.Bytes.{has}
 use Rattle.wat.proofs.Basics.{below}
 use Rattle.lex_classes.specs.Scan.{Passed, Scanned, First}
 use Rattle.lex_classes.proofs.ScanLaws.{passed-stop, passed-end}
-use Rattle.lex_classes.proofs.BlockLaws.{clear-none, clear-then, clear-one, first-clear, none-passed}
+use Rattle.lex_classes.proofs.SearchLaws.{clear-none, clear-then, clear-one, first-clear, none-passed}
 use Rattle.lex_comments.specs.Find.{among, byteAt, Without, Sought}
 
 pub among-or : (x y b : ℕ) → among x y b ≡ eqb x b || eqb y b

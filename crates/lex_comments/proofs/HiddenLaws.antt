@@ -18,7 +18,7 @@ use Rattle.wat.specs.declared.Hidden.the-variants.{Clear as clear, Found as fou
 use Rattle.wat.specs.LexModel.{beyond, hidden}
 use Rattle.wat.proofs.Utf8Rows.{char-full}
 use Rattle.wat.proofs.Basics.{below}
-use Rattle.lex_classes.proofs.BlockLaws.{clear-carries}
+use Rattle.lex_classes.proofs.SearchLaws.{clear-carries}
 use Rattle.lex_comments.specs.Find.{byteAt, Without, Sought}
 use Rattle.lex_classes.specs.Ask.{confusingBytes}
 use Rattle.lex_comments.specs.Confusing.{lead, confusingAt, before, hiddenIn}

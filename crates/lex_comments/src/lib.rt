@@ -7,21 +7,14 @@ ghost use lib.ListN.{length, take, drop};
 ghost use Rattle.wat.specs.Utf8.{WellFormed, scalar};
 ghost use Rattle.wat.specs.Chars.{newline};
 ghost use Rattle.wat.specs.LexModel.{hidden};
-ghost use Rattle.lex_classes.specs.Scan.{Scanned, First, placed};
+ghost use Rattle.lex_classes.specs.Scan.{Scanned, First};
 ghost use Rattle.lex_comments.specs.Find.{among, byteAt, Without, Sought};
 ghost use Rattle.lex_comments.specs.Ends.{lineStop, mark, markAt, BlockEnd};
 ghost use Rattle.lex_comments.specs.Confusing.{lead, confusingAt, hiddenIn};
 use wat::Hidden;
 
-// k for a place that passes a test, and n for one that does not.
-fn place_if(passes: bool, n: u8, k: u8) -> u8
-    ensures { λ r. ⌜ r ≡ placed passes n k ⌝ }
-{
-    if passes { k } else { n }
-}
-
-// How many of the 64 bytes from i on come before the first that is x or y: the least place of such a byte. No branch
-// depends on the bytes, and LLVM makes vector code of the loop; of one over 32 bytes it does not.
+// How many of the 64 bytes from i on come before the first that is x or y. With so small a test LLVM makes no vector
+// code of a loop over 32.
 fn first64(x: u8, y: u8, s: &[u8], i: usize) -> usize
     requires { ⌜ i + 64 ≤ length (now s) ⌝ }
     ensures { λ r. ⌜ First (byteAt (among x y) (now (s .entry))) i 64 r ⌝ }
@@ -30,10 +23,7 @@ fn first64(x: u8, y: u8, s: &[u8], i: usize) -> usize
     let mut k: usize = 0;
     while k < 64 {
         let b = s[i + k];
-        let v = place_if((x == b) | (y == b), 64, k as u8);
-        if v < m {
-            m = v;
-        }
+        m = lex_classes::lesser((x == b) | (y == b), 64, k as u8, m);
         k += 1;
     }
     m as usize
@@ -89,7 +79,7 @@ fn is_line_stop(b: u8) -> bool
     ((b'\n' == b) | (b'\r' == b)) | (0xe2 == b)
 }
 
-// How many of the 64 bytes from i on come before the first such byte, by the least place as in first64.
+// How many of the 64 bytes from i on come before the first such byte.
 fn stop64(s: &[u8], i: usize) -> usize
     requires { ⌜ i + 64 ≤ length (now s) ⌝ }
     ensures { λ r. ⌜ First (byteAt lineStop (now (s .entry))) i 64 r ⌝ }
@@ -97,10 +87,7 @@ fn stop64(s: &[u8], i: usize) -> usize
     let mut m: u8 = 64;
     let mut k: usize = 0;
     while k < 64 {
-        let v = place_if(is_line_stop(s[i + k]), 64, k as u8);
-        if v < m {
-            m = v;
-        }
+        m = lex_classes::lesser(is_line_stop(s[i + k]), 64, k as u8, m);
         k += 1;
     }
     m as usize
@@ -136,7 +123,7 @@ fn is_mark(b: u8, c: u8) -> bool
     ((b == b'(') & (c == b';')) | ((b == b';') & (c == b')'))
 }
 
-// The first of the 64 places from i on with a mark, by the least place as in first64.
+// The first of the 64 places from i on with a mark.
 fn mark64(s: &[u8], i: usize) -> usize
     requires { ⌜ i + 65 ≤ length (now s) ⌝ }
     ensures { λ r. ⌜ First (markAt (now (s .entry))) i 64 r ⌝ }
@@ -144,10 +131,7 @@ fn mark64(s: &[u8], i: usize) -> usize
     let mut m: u8 = 64;
     let mut k: usize = 0;
     while k < 64 {
-        let v = place_if(is_mark(s[i + k], s[i + k + 1]), 64, k as u8);
-        if v < m {
-            m = v;
-        }
+        m = lex_classes::lesser(is_mark(s[i + k], s[i + k + 1]), 64, k as u8, m);
         k += 1;
     }
     m as usize
@@ -232,8 +216,7 @@ fn char_at(s: &[u8], at: usize) -> u32
     a % 0x10 * 0x1000 + b % 0x40 * 0x40 + c % 0x40
 }
 
-// The first of the 32 places from i on with a confusing character, by the least place as in first64: with a test of
-// three bytes LLVM makes vector code of 32 as well.
+// The first of the 32 places from i on with a confusing character.
 fn hides32(s: &[u8], i: usize) -> usize
     requires { ⌜ i + 34 ≤ length (now s) ⌝ }
     ensures { λ r. ⌜ First (confusingAt (now (s .entry))) i 32 r ⌝ }
@@ -241,14 +224,8 @@ fn hides32(s: &[u8], i: usize) -> usize
     let mut m: u8 = 32;
     let mut k: usize = 0;
     while k < 32 {
-        let v = place_if(
-            lex_classes::is_confusing_bytes(s[i + k], s[i + k + 1], s[i + k + 2]),
-            32,
-            k as u8,
-        );
-        if v < m {
-            m = v;
-        }
+        let hides = lex_classes::is_confusing_bytes(s[i + k], s[i + k + 1], s[i + k + 2]);
+        m = lex_classes::lesser(hides, 32, k as u8, m);
         k += 1;
     }
     m as usize

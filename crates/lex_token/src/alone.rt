@@ -30,7 +30,7 @@ fn string_alone(s: &[u8], t: &[u8; 256]) -> u16
     ensures { λ r. ⌜ Alone (now (s .entry)) r ⌝ }
 {
     let n = s.len();
-    let i = lex_classes::raw_end(s, 1, t);
+    let i = lex_classes::ascii_raw_end(s, 1, t);
     if n - i != 1 {
         return 0;
     }
@@ -40,15 +40,13 @@ fn string_alone(s: &[u8], t: &[u8; 256]) -> u16
     TokenKind::STRING
 }
 
-// The number of the kind of a text that is one word; 0 where it is not.
+// The same for a text that begins otherwise.
 fn word_alone(s: &[u8], t: &[u8; 256]) -> u16
+    requires { ⌜ 0 < length (now s) ⌝ }
     requires { ⌜ Classes (now t) ⌝ }
     ensures { λ r. ⌜ Alone (now (s .entry)) r ⌝ }
 {
     let n = s.len();
-    if n == 0 {
-        return 0;
-    }
     if lex_classes::idchars_end(s, 0, t) != n {
         return 0;
     }

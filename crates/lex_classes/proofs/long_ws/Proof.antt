@@ -8,7 +8,7 @@ use borrow.Author.Tests.{not-true, not-false}
 use Rattle.wat.specs.Chars.{space}
 use Rattle.lex_classes.specs.Scan.{Passed}
 use Rattle.lex_classes.proofs.ScanLaws.{passed-none, passed-one, passed-stop, passed-end, passed-then}
-use Rattle.lex_classes.proofs.BlockLaws.{first-clear, all-passed}
+use Rattle.lex_classes.proofs.SearchLaws.{first-clear, all-passed}
 use Rattle.lex_classes.proofs.long_ws.Statement.{statement}
 use Rattle.lex_classes.proofs.long_ws.Tie as tie
 

@@ -1,14 +1,12 @@
 -- The least place of a byte that is no white space. Assumes nothing.
 use Prim.Native.Nat.{ℕ, _≤_, _-_}
-use mathlib.Core.Path.{refl}
+use mathlib.Core.Path.{ap}
 use mathlib.Core.Bool.{Bool, not}
 use mathlib.Core.List.{List}
-use mathlib.Core.Logic.{⊎-elim}
 use native.Mathlib.Omega.{arith}
 use lib.ListN.{getD}
-use borrow.Author.Needs.{needs}
 use Rattle.wat.specs.Chars.{space}
-use Rattle.lex_classes.proofs.BlockLaws.{Least, least-none, least-le, least-next, least-first}
+use Rattle.lex_classes.proofs.SearchLaws.{Least, least-none, least-le, least-next, least-first}
 use Rattle.lex_classes.proofs.spaces32.Statement.{statement}
 use Rattle.lex_classes.proofs.spaces32.Tie as tie
 
@@ -25,17 +23,20 @@ abbrev μ-loop : tie.MeasureT-loop
 loop-holds : tie.Need-loop-holds Inv-loop μ-loop
 loop-holds c = let a = c .before .args in (omega arith, least-none (other (a .s .now)) (a .i) 32)
 
-add-unless-space : tie.Need-add-unless-space Inv-loop μ-loop
-add-unless-space c = omega arith
+add-is-space : tie.Need-add-is-space Inv-loop μ-loop
+add-is-space c = omega arith
 
-shared-slice-read-unless-space : tie.Need-shared-slice-read-unless-space Inv-loop μ-loop
-shared-slice-read-unless-space c = omega arith
+shared-slice-read-is-space : tie.Need-shared-slice-read-is-space Inv-loop μ-loop
+shared-slice-read-is-space c = omega arith
 
-cast-unless-space : tie.Need-cast-unless-space Inv-loop μ-loop
-cast-unless-space c = omega arith
+is-space-requires : tie.Need-is-space-requires Inv-loop μ-loop
+is-space-requires c κs = tt
 
-unless-space-requires : tie.Need-unless-space-requires Inv-loop μ-loop
-unless-space-requires c κs = search needs
+cast-lesser : tie.Need-cast-lesser Inv-loop μ-loop
+cast-lesser c = omega arith
+
+lesser-requires : tie.Need-lesser-requires Inv-loop μ-loop
+lesser-requires c κs = tt
 
 add-k : tie.Need-add-k Inv-loop μ-loop
 add-k c = omega arith
@@ -45,12 +46,13 @@ loop-less c = omega arith
 
 loop-again : tie.Need-loop-again Inv-loop μ-loop
 loop-again c =
-    let a = c .before .before .before .before .before .before .args in
-    let l = c .before .before .before .before .loop in
-    let u = c .before .unless-space in (
+    let asked = c .before in
+    let round = asked .before .before .before in
+    let a = round .before .before .args in
+    let l = round .loop in (
       omega arith,
-      least-next (other (a .s .now)) (a .i) 32 (l .k) (l .m) (u .result) (c .if1 .m) _ (omega arith) (l .inv .1) refl (u .ensures)
-          (⊎-elim (λ w. omega (arith, w .0 .taken, w .1)) (λ w. omega (arith, w .0 .left, w .1)) (c .if1 .came)),
+      least-next (other (a .s .now)) (a .i) 32 (l .k) (l .m) (c .lesser .result) _ (omega arith) (l .inv .1)
+          (ap not (asked .is-space .ensures)) (c .lesser .ensures),
     )
 
 cast-result : tie.Need-cast-result Inv-loop μ-loop
@@ -66,10 +68,11 @@ spaces32-spec =
     Inv-loop
     μ-loop
     loop-holds
-    add-unless-space
-    shared-slice-read-unless-space
-    cast-unless-space
-    unless-space-requires
+    add-is-space
+    shared-slice-read-is-space
+    is-space-requires
+    cast-lesser
+    lesser-requires
     add-k
     loop-less
     loop-again

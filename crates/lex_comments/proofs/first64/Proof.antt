@@ -1,9 +1,8 @@
 -- The least place of a byte that is x or y. Assumes nothing.
-use Prim.Native.Nat.{_-_, min, _≤_}
-use mathlib.Core.Path.{_≡_, sym}
-use mathlib.Core.Logic.{⊎-elim}
+use Prim.Native.Nat.{_-_, _≤_}
+use mathlib.Core.Path.{sym}
 use native.Mathlib.Omega.{arith}
-use Rattle.lex_classes.proofs.BlockLaws.{Least, least-none, least-le, least-next, least-first}
+use Rattle.lex_classes.proofs.SearchLaws.{Least, least-none, least-le, least-next, least-first}
 use Rattle.lex_comments.specs.Find.{among, byteAt}
 use Rattle.lex_comments.proofs.FindLaws.{among-or}
 use Rattle.lex_comments.proofs.first64.Statement.{statement}
@@ -24,11 +23,11 @@ add-b c = omega arith
 shared-slice-read-b : tie.Need-shared-slice-read-b Inv-loop μ-loop
 shared-slice-read-b c = omega arith
 
-cast-place-if : tie.Need-cast-place-if Inv-loop μ-loop
-cast-place-if c = omega arith
+cast-lesser : tie.Need-cast-lesser Inv-loop μ-loop
+cast-lesser c = omega arith
 
-place-if-requires : tie.Need-place-if-requires Inv-loop μ-loop
-place-if-requires c κs = tt
+lesser-requires : tie.Need-lesser-requires Inv-loop μ-loop
+lesser-requires c κs = tt
 
 add-k : tie.Need-add-k Inv-loop μ-loop
 add-k c = omega arith
@@ -38,14 +37,11 @@ loop-less c = omega arith
 
 loop-again : tie.Need-loop-again Inv-loop μ-loop
 loop-again c =
-    let p = c .before .place-if in
-    let l = c .before .before .before .before .loop in
-    let a = c .before .before .before .before .before .before .args in
-    let least : c .if1 .m ≡ min (p .result) (l .m) =
-    ⊎-elim (λ w. omega (arith, w .0 .taken, w .1)) (λ w. omega (arith, w .0 .left, w .1)) (c .if1 .came) in (
+    let l = c .before .before .before .loop in
+    let a = c .before .before .before .before .before .args in (
       omega arith,
-      least-next _ _ 64 (l .k) (l .m) (p .result) (c .if1 .m) _ (omega arith) (l .inv .1)
-          (sym (among-or (a .x) (a .y) _)) (p .ensures) least,
+      least-next _ _ 64 (l .k) (l .m) (c .lesser .result) _ (omega arith) (l .inv .1) (sym (among-or (a .x) (a .y) _))
+          (c .lesser .ensures),
     )
 
 cast-result : tie.Need-cast-result Inv-loop μ-loop
@@ -63,8 +59,8 @@ first64-spec =
     loop-holds
     add-b
     shared-slice-read-b
-    cast-place-if
-    place-if-requires
+    cast-lesser
+    lesser-requires
     add-k
     loop-less
     loop-again

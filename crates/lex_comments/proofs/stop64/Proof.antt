@@ -1,9 +1,7 @@
 -- The least place of a byte at which a plain line stops. Assumes nothing.
-use Prim.Native.Nat.{_-_, min, _≤_}
-use mathlib.Core.Path.{_≡_}
-use mathlib.Core.Logic.{⊎-elim}
+use Prim.Native.Nat.{_-_, _≤_}
 use native.Mathlib.Omega.{arith}
-use Rattle.lex_classes.proofs.BlockLaws.{Least, least-none, least-le, least-next, least-first}
+use Rattle.lex_classes.proofs.SearchLaws.{Least, least-none, least-le, least-next, least-first}
 use Rattle.lex_comments.specs.Find.{byteAt}
 use Rattle.lex_comments.specs.Ends.{lineStop}
 use Rattle.lex_comments.proofs.stop64.Statement.{statement}
@@ -27,11 +25,11 @@ shared-slice-read-is-line-stop c = omega arith
 is-line-stop-requires : tie.Need-is-line-stop-requires Inv-loop μ-loop
 is-line-stop-requires c κs = tt
 
-cast-place-if : tie.Need-cast-place-if Inv-loop μ-loop
-cast-place-if c = omega arith
+cast-lesser : tie.Need-cast-lesser Inv-loop μ-loop
+cast-lesser c = omega arith
 
-place-if-requires : tie.Need-place-if-requires Inv-loop μ-loop
-place-if-requires c κs = tt
+lesser-requires : tie.Need-lesser-requires Inv-loop μ-loop
+lesser-requires c κs = tt
 
 add-k : tie.Need-add-k Inv-loop μ-loop
 add-k c = omega arith
@@ -41,12 +39,9 @@ loop-less c = omega arith
 
 loop-again : tie.Need-loop-again Inv-loop μ-loop
 loop-again c =
-    let p = c .before .place-if in
-    let e = c .before .before .is-line-stop .ensures in
-    let l = c .before .before .before .before .before .loop in
-    let least : c .if1 .m ≡ min (p .result) (l .m) =
-    ⊎-elim (λ w. omega (arith, w .0 .taken, w .1)) (λ w. omega (arith, w .0 .left, w .1)) (c .if1 .came) in
-    (omega arith, least-next _ _ 64 (l .k) (l .m) (p .result) (c .if1 .m) _ (omega arith) (l .inv .1) e (p .ensures) least)
+    let e = c .before .is-line-stop .ensures in
+    let l = c .before .before .before .before .loop in
+    (omega arith, least-next _ _ 64 (l .k) (l .m) (c .lesser .result) _ (omega arith) (l .inv .1) e (c .lesser .ensures))
 
 cast-result : tie.Need-cast-result Inv-loop μ-loop
 cast-result c = let l = c .before .loop in omega (arith, least-le _ _ 64 (l .k) (l .m) (l .inv .0) (l .inv .1))
@@ -64,8 +59,8 @@ stop64-spec =
     add-is-line-stop
     shared-slice-read-is-line-stop
     is-line-stop-requires
-    cast-place-if
-    place-if-requires
+    cast-lesser
+    lesser-requires
     add-k
     loop-less
     loop-again

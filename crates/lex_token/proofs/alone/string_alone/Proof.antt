@@ -6,8 +6,8 @@ use Rattle.lex_token.proofs.AloneLaws.{string-whole}
 use Rattle.lex_token.proofs.alone.string_alone.Statement.{statement}
 use Rattle.lex_token.proofs.alone.string_alone.Tie as tie
 
-raw-end-requires : tie.Need-raw-end-requires
-raw-end-requires c κs = search needs
+ascii-raw-end-requires : tie.Need-ascii-raw-end-requires
+ascii-raw-end-requires c κs = search needs
 
 sub-if1 : tie.Need-sub-if1
 sub-if1 c = search needs
@@ -24,8 +24,8 @@ returns-2 c = λ n. absurd (n refl)
 returns-3 : tie.Need-returns-3
 returns-3 c =
     let k = c .before .before .before in
-    λ n. string-whole _ (k .raw-end .ensures) (omega arith) (k .before .before .pre .0 .1) (omega arith) (omega arith)
+    λ n. string-whole _ (k .ascii-raw-end .ensures) (omega arith) (k .before .before .pre .0 .1) (omega arith) (omega arith)
 
 pub string-alone-spec : {M : Type 1} → statement M
 string-alone-spec =
-    tie.close (tie.spec raw-end-requires sub-if1 returns shared-slice-read-if2 returns-2 returns-3)
+    tie.close (tie.spec ascii-raw-end-requires sub-if1 returns shared-slice-read-if2 returns-2 returns-3)

@@ -18,7 +18,7 @@ returns-2 : tie.Need-returns-2
 returns-2 c = search needs
 
 word-alone-requires : tie.Need-word-alone-requires
-word-alone-requires c κs = search needs
+word-alone-requires c κs = (omega arith, c .before .before .before .before .pre)
 
 returns-3 : tie.Need-returns-3
 returns-3 c = search needs

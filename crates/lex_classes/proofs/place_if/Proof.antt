@@ -1,7 +1,7 @@
 -- One answer for each answer of the test. Assumes nothing.
 use Rattle.lex_classes.specs.Scan.{placed}
-use Rattle.lex_comments.proofs.place_if.Statement.{statement}
-use Rattle.lex_comments.proofs.place_if.Tie as tie
+use Rattle.lex_classes.proofs.place_if.Statement.{statement}
+use Rattle.lex_classes.proofs.place_if.Tie as tie
 
 returns : tie.Need-returns
 unfolding placed

@@ -54,17 +54,17 @@ module _ (f : ℕ → Bool) (i n : ℕ) where
   least-le k m h (inl (e, p)) = omega arith
   least-le k m h (inr (l, p)) = omega arith
 
-  -- the next place, of which the test answers c, is said by v, and the lesser of v and m is kept
+  -- the next place, of which the test answers c
   pub least-next :
-      (k m v m′ : ℕ) (c : Bool) → k < n → Least f i n k m → c ≡ f (i + k) → v ≡ placed c n k → m′ ≡ min v m
+      (k m m′ : ℕ) (c : Bool) → k < n → Least f i n k m → c ≡ f (i + k) → m′ ≡ min (placed c n k) m
       → Least f i n (k + 1) m′
   unfolding placed
-  least-next k m v m′ c h l q w g = go c (sym q) l w
+  least-next k m m′ c h l q g = go c (sym q) l g
     where
       found : (x : ℕ) → x ≡ m′ → x < k + 1 → Clear f i (i + x) × (f (i + x) ≡ true) → Least f i n (k + 1) m′
       found x e z p = inr (omega arith, subst (λ (y : ℕ). Clear f i (i + y) × (f (i + y) ≡ true)) e p)
 
-      go : (c : Bool) → f (i + k) ≡ c → Least f i n k m → v ≡ placed c n k → Least f i n (k + 1) m′
+      go : (c : Bool) → f (i + k) ≡ c → Least f i n k m → m′ ≡ min (placed c n k) m → Least f i n (k + 1) m′
       go true q (inl (e, p)) w = found k (omega arith) (omega arith) (p, q)
       go false q (inl (e, p)) w = inl (omega arith, clear-one f i (i + k) (i + (k + 1)) (omega arith) p q)
       go true q (inr (z, p)) w = found m (omega arith) (omega arith) p

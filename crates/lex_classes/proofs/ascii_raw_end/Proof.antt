@@ -8,8 +8,8 @@ use borrow.Author.Tests.{not-true, not-false}
 use Rattle.lex_classes.specs.Ask.{raw}
 use Rattle.lex_classes.specs.Scan.{Passed}
 use Rattle.lex_classes.proofs.ScanLaws.{passed-none, passed-one, passed-stop, passed-end}
-use Rattle.lex_classes.proofs.raw_end.Statement.{statement}
-use Rattle.lex_classes.proofs.raw_end.Tie as tie
+use Rattle.lex_classes.proofs.ascii_raw_end.Statement.{statement}
+use Rattle.lex_classes.proofs.ascii_raw_end.Tie as tie
 
 abbrev Inv-loop : tie.InvT-loop
 Inv-loop s at t i₀ i = Passed raw true s at i
@@ -45,8 +45,8 @@ loop-again c =
 returns-2 : tie.Need-returns-2 Inv-loop μ-loop
 returns-2 c = passed-end raw true _ _ _ (c .before .loop .inv) (omega arith)
 
-pub raw-end-spec : {M : Type 1} → statement M
-raw-end-spec =
+pub ascii-raw-end-spec : {M : Type 1} → statement M
+ascii-raw-end-spec =
     tie.close
     (tie.spec
     Inv-loop
