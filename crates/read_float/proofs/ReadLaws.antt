@@ -1,6 +1,6 @@
 -- From what is known of a float, and what its parts hand over, to what the readers promise. Assumes nothing.
 use Prim.Native.Nat.{ℕ, _+_}
-use mathlib.Core.Path.{_≡_, refl, sym, _∙_}
+use mathlib.Core.Path.{_≡_, refl}
 use mathlib.Core.List.{List}
 use Rattle.wat.specs.declared.{IntegerKind.IntegerKind, FloatKind.FloatKind, TokenKind.TokenKind, Token.Token, Refusal.Refusal}
 use Rattle.wat_values.specs.declared.{FloatPart.FloatPart, Reading.Reading}
@@ -10,7 +10,7 @@ use Rattle.wat_values.specs.declared.Reading.the-variants.{Refused}
 use Rattle.wat_values.specs.declared.FloatSign.the-variants as float
 use Rattle.wat_values.specs.Values.{Reader, Takes}
 use Rattle.wat_values.specs.Reading.{There, noPlace, Read, ReadsNegative}
-use Rattle.wat.proofs.Basics.{differ}
+use Rattle.wat_values.proofs.SomeValue.{kinds-apart}
 use Rattle.read_parts.specs.Handing.{Hands}
 use Rattle.read_token.specs.Here.{Denied}
 use Rattle.read_token.proofs.PresentLaws.{hands-reads}
@@ -27,10 +27,6 @@ part-read t e h = hands-reads t e Takes.a-float h
 takes-float : {p : FloatPart} {k : TokenKind} → Takes (Reader.float p) k → (f : FloatKind) × (k ≡ kind.Float f)
 takes-float (Takes.a-float {f = f}) = (f, refl)
 
--- an integer is no float
-apart : {k : TokenKind} {i : IntegerKind} {f : FloatKind} → k ≡ kind.Integer i → k ≡ kind.Float f → ⊥
-apart {i = i} {f = f} e q = let z : kind.Integer i ≡ kind.Float f = sym e ∙ q in differ (cc)
-
 module _ {text : List ℕ} {token : Token} where
   module _ {part : FloatPart} {buffer : List ℕ} where
     pub float-denied : {r : Refusal} {p : ℕ} → Denied text token r p → Read (Reader.float part) text token buffer (Refused r p) buffer
@@ -39,7 +35,7 @@ module _ {text : List ℕ} {token : Token} where
 
     pub integer-denied : {i : IntegerKind} → There text token × (token .kind ≡ kind.Integer i)
         → Read (Reader.float part) text token buffer (Refused NotThatKind noPlace) buffer
-    integer-denied (t, e) = Read.other-kind t (λ k. apart e (takes-float k .1))
+    integer-denied (t, e) = Read.other-kind t (λ k. kinds-apart e (takes-float k .1))
 
   pub negative-denied : {r : Refusal} {p : ℕ} → Denied text token r p → ReadsNegative text token (float.Refused r p)
   negative-denied (Denied.missing b) = ReadsNegative.missing b
@@ -47,4 +43,4 @@ module _ {text : List ℕ} {token : Token} where
 
   pub integer-sign-denied : {i : IntegerKind} → There text token × (token .kind ≡ kind.Integer i)
       → ReadsNegative text token (float.Refused NotThatKind noPlace)
-  integer-sign-denied (t, e) = ReadsNegative.other-kind t (λ f q. apart e q)
+  integer-sign-denied (t, e) = ReadsNegative.other-kind t (λ f q. kinds-apart e q)

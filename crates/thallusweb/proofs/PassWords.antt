@@ -22,7 +22,7 @@ use Rattle.wat_values.specs.Values.{Reader, Takes, Value, Reads}
 use Rattle.wat_values.specs.Names.{Misnamed}
 use Rattle.wat_values.specs.Reading.{own, found, Second}
 use Rattle.wat_values.specs.Readable.{bytesOf, filled, Yields, Readable, SignOf, HasSign, Signs, SignRead, Passes}
-use Rattle.c_words.specs.Words.{refusedWords, stopWords}
+use Rattle.c_words.specs.Words.{refusedWords, stopWords, listedWords}
 use Rattle.c_read_words.specs.Words.{readingWords}
 use Rattle.c_spots.specs.Spots.{PartWords}
 use Rattle.c_asked.specs.Asked.{Denotes}
@@ -169,6 +169,11 @@ said-denotes s =
       fits = omega (arith, x .fits, x .length-said);
     }
 
+-- and its kind: the one that has the number
+said-kind : {l : List ℕ} {ts : List _} {i : ℕ} (s : SaidOf l ts i) (k : TokenKind) → kindNumber k ≡ kindAt l i
+    → s .token .kind ≡ k
+said-kind s k n = injective (s .token .kind) k (sym (s .said .kind-said) ∙ sym n)
+
 pub passes-words : {σ : Settings} {text list out l : List ℕ} {budget : ℕ} → ListedWords σ text 0 budget list out l
     → getD out 0 0 ≡ 0 → PassesWords σ text out l
 passes-words {σ} {text} {list} {l = l} (ListedWords.listed {r = r} x) e =
@@ -177,25 +182,27 @@ passes-words {σ} {text} {list} {l = l} (ListedWords.listed {r = r} x) e =
     let whole = p .whole in
     let sound = listed-stands x q .sound in
     let count = counted-word (r .stop) (r .count) (r .position) in
+    let said : (i : ℕ) → i < getD (listedWords r) 5 0 → SaidOf l (whole .tokens) i =
+    λ i h. whole-decode sound whole i (omega (arith, count)) in
     record {
       tokens = whole .tokens;
       divided = whole .divided;
       division = whole .division;
       counted = count ∙ whole .counted;
       decoded = λ i h.
-          let s = whole-decode sound whole i (omega (arith, count)) in
+          let s = said i h in
           (s .before, s .after, s .token, s .parted, s .counted, words-said (s .said));
-      kinds = λ i h. let s = whole-decode sound whole i (omega (arith, count)) in (s .token .kind, sym (s .said .kind-said));
+      kinds = λ i h. let s = said i h in (s .token .kind, sym (s .said .kind-said));
       readable = λ i h k n′ n reader o takes.
-          let s = whole-decode sound whole i (omega (arith, count)) in
-          let z : s .token .kind ≡ k = injective (s .token .kind) k (sym (s .said .kind-said) ∙ sym n′) in
+          let s = said i h in
+          let z = said-kind s k n′ in
           subst (λ (j : TokenKind). ReadableWords n reader j text (tokenWords l i)) z
           (readable-words text (tokenWords l i) (said-denotes s) o
           (p .readable (s .before) (s .after) (s .token) (s .parted) reader
           (subst (λ (j : TokenKind). Takes reader j) (sym z) takes)));
       signed = λ i h k n′ has.
-          let s = whole-decode sound whole i (omega (arith, count)) in
-          let z : s .token .kind ≡ k = injective (s .token .kind) k (sym (s .said .kind-said) ∙ sym n′) in
+          let s = said i h in
+          let z = said-kind s k n′ in
           subst (λ (j : TokenKind). SignReadWords j text (tokenWords l i)) z
           (signs-words text (tokenWords l i) (said-denotes s)
           (p .signed (s .before) (s .after) (s .token) (s .parted) (subst HasSign (sym z) has)));

@@ -12,9 +12,9 @@ use Rattle.wat.specs.Calls.{Parses, Annotates}
 use Rattle.wat.specs.Division.{Listing}
 use Rattle.wat_values.specs.Reading.{ReadsSign, ReadsNegative}
 use Rattle.messages.specs.ByNumber.{TellsBy}
-use Rattle.c_words.specs.Words.{checkedWords, foundWords, parsedWords, listedWords}
+use Rattle.c_words.specs.Words.{checkedWords, refusedWords, foundWords, parsedWords, listedWords}
 use Rattle.c_read_words.specs.Words.{readingWords, integerSignWords, floatSignWords, messageWords}
-use Rattle.c_asked.specs.Asked.{settingsOf, DenotesNone, Empty, Asks}
+use Rattle.c_asked.specs.Asked.{settingsOf, Denotes, DenotesNone, Empty, Asks}
 use Rattle.read_call.specs.ByNumber.{ReadBy, Nowhere}
 use Rattle.read_call.proofs.NowhereLaws.{read-nowhere, sign-nowhere, negative-nowhere}
 use Rattle.thallusweb.specs.Promises.{Utf8Checked, ParsedWords, AnnotatedWords, ListedWords, Nameless, ReadWords}
@@ -59,25 +59,26 @@ module _ {text w : List ℕ} {t : Token} where
       (read-nowhere (e .long) (λ (a : Reading) (b : List ℕ). ReadWords n text w buffer (readingWords a) b) r
       (λ q p y. ReadWords.nameless (unnamed x e y)))
 
-  pub integer-words : {v : List ℕ} (s : IntegerSign) → Asks w t → ReadsSign text t s → v ≡ integerSignWords s
-      → IntegerSignWords text w v
-  integer-words s (Asks.one q) r z = subst (IntegerSignWords text w) (sym z) (IntegerSignWords.read s q r)
-  integer-words s (Asks.none x e) r z =
-      subst
-      (IntegerSignWords text w)
-      (sym z)
-      (sign-nowhere (e .long) (λ (s : IntegerSign). IntegerSignWords text w (integerSignWords s)) r
-      (λ q p y. IntegerSignWords.nameless (unnamed x e y)))
+  -- a call that takes no buffer: its words are those of its answer where a token is named, and those of a refusal else
+  answer-words : (P : List ℕ → Type 0) (u : List ℕ) {v : List ℕ} → v ≡ u → Asks w t → (Denotes w t → P u)
+      → (t .len ≡ 0 → ((r : Refusal) (p : ℕ) → Nowhere text (t .offset) r p → P (refusedWords r p)) → P u)
+      → ((r : Refusal) (p : ℕ) → Nameless text w r p → P (refusedWords r p)) → P v
+  answer-words P u z (Asks.one q) read none nameless = subst P (sym z) (read q)
+  answer-words P u z (Asks.none x e) read none nameless = subst P (sym z) (none (e .long) (λ r p y. nameless r p (unnamed x e y)))
 
-  pub float-words : {v : List ℕ} (s : FloatSign) → Asks w t → ReadsNegative text t s → v ≡ floatSignWords s
+  pub integer-sign-words : {v : List ℕ} (s : IntegerSign) → Asks w t → ReadsSign text t s → v ≡ integerSignWords s
+      → IntegerSignWords text w v
+  integer-sign-words s k r z =
+      answer-words (IntegerSignWords text w) (integerSignWords s) z k (λ q. IntegerSignWords.read s q r)
+      (λ n f. sign-nowhere n (λ (a : IntegerSign). IntegerSignWords text w (integerSignWords a)) r f)
+      (λ q p x. IntegerSignWords.nameless x)
+
+  pub float-sign-words : {v : List ℕ} (s : FloatSign) → Asks w t → ReadsNegative text t s → v ≡ floatSignWords s
       → FloatSignWords text w v
-  float-words s (Asks.one q) r z = subst (FloatSignWords text w) (sym z) (FloatSignWords.read s q r)
-  float-words s (Asks.none x e) r z =
-      subst
-      (FloatSignWords text w)
-      (sym z)
-      (negative-nowhere (e .long) (λ (s : FloatSign). FloatSignWords text w (floatSignWords s)) r
-      (λ q p y. FloatSignWords.nameless (unnamed x e y)))
+  float-sign-words s k r z =
+      answer-words (FloatSignWords text w) (floatSignWords s) z k (λ q. FloatSignWords.read s q r)
+      (λ n f. negative-nowhere n (λ (a : FloatSign). FloatSignWords text w (floatSignWords a)) r f)
+      (λ q p x. FloatSignWords.nameless x)
 
 -- ---- messages
 

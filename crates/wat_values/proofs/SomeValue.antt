@@ -1,10 +1,11 @@
 -- Each token has a value for each reader that takes its kind. Assumes nothing.
 use Prim.Native.Nat.{ℕ}
-use mathlib.Core.Path.{_≡_, refl, sym, subst}
+use mathlib.Core.Path.{_≡_, refl, sym, subst, _∙_}
 use mathlib.Core.Logic.{_⊎_, inl, inr}
 use mathlib.Core.List.{List, [], _∷_, _++_, append-nil}
 use mathlib.Core.Bool.{Bool, true}
 use Rattle.wat.specs.declared.Sign.{Sign}
+use Rattle.wat.specs.declared.IntegerKind.{IntegerKind}
 use Rattle.wat.specs.declared.FloatKind.{FloatKind}
 use Rattle.wat.specs.declared.FloatKind.the-variants as float-kind
 use Rattle.wat.specs.declared.TokenKind.{TokenKind}
@@ -18,7 +19,7 @@ use Rattle.wat.specs.Bytes.{byte, has, Each}
 use Rattle.wat.specs.Settings.{lenient}
 use Rattle.wat.specs.Utf8.{Says}
 use Rattle.wat.specs.Utf8Model.{checked}
-use Rattle.wat.specs.Numbers.{inf, nan, nan-colon, negative, Digits, Signed, Fraction, Exponent, IsInteger, IsFloat, Literal}
+use Rattle.wat.specs.Numbers.{prefix, inf, nan, nan-colon, negative, Digits, Signed, Fraction, Exponent, IsInteger, IsFloat, Literal}
 use Rattle.wat.specs.Chars.{idchar}
 use Rattle.wat.specs.Strings.{Str}
 use Rattle.wat.specs.Tokens.{Proper, Tok, numberKind}
@@ -93,6 +94,15 @@ made (Tok.proper (Proper.quoted-annotation q)) = (_, refl, inr (_, q))
 made (Tok.proper (Proper.keyword l e n)) = tt
 made (Tok.reserved r n) = tt
 made (Tok.single p) = tt
+
+-- no kind is an integer's and a float's
+pub kinds-apart : {k : TokenKind} {i : IntegerKind} {f : FloatKind} → k ≡ kind.Integer i → k ≡ kind.Float f → ⊥
+kinds-apart {i = i} {f = f} e q = let z : kind.Integer i ≡ kind.Float f = sym e ∙ q in differ (cc)
+
+-- an integer is a float too by the standard
+pub integer-float : {sign : Sign} {hex : Bool} {w : List ℕ} → IsInteger sign hex w → IsFloat hex w
+integer-float {hex = hex} (IsInteger.integer {u = u} {s = s} g d) =
+    let x : IsFloat hex (u ++ (prefix hex ++ (s ++ []))) = IsFloat.float g d Fraction.none Exponent.none in rw append-nil at x
 
 -- a float is split in some way, an integer into its sign and its digits
 pub float-split : {hex : Bool} {w : List ℕ} → IsFloat hex w → (sign : Sign) × (u p f e : List ℕ) × Split hex w sign u p f e

@@ -4,11 +4,11 @@ use native.Mathlib.Omega.{arith}
 use borrow.Author.Needs.{needs}
 use Rattle.wat.specs.declared.TokenKind.the-variants.{Integer}
 use Rattle.wat_values.specs.Reading.{There}
-use Rattle.wat_values.proofs.SomeValue.{made}
+use Rattle.wat_values.proofs.SomeValue.{made, integer-float}
 use Rattle.read_token.specs.declared.NumberKind.{NumberKind}
 use Rattle.read_token.specs.Here.{HereNumber}
 use Rattle.read_token.proofs.PresentLaws.{there-fits, there-slice}
-use Rattle.read_integer.proofs.ReadLaws.{integer-read, integer-float, integer-denied, float-denied}
+use Rattle.read_integer.proofs.ReadLaws.{integer-read, integer-denied, float-denied}
 use Rattle.read_integer.proofs.integer.Statement.{statement}
 use Rattle.read_integer.proofs.integer.Tie as tie
 

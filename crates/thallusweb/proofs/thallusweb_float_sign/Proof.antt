@@ -1,5 +1,5 @@
 -- `thallusweb_float_sign` keeps its promise: the words are those of the sign. Assumes nothing.
-use Rattle.thallusweb.proofs.WordLaws.{float-words}
+use Rattle.thallusweb.proofs.WordLaws.{float-sign-words}
 use borrow.Author.Needs.{needs}
 use Rattle.thallusweb.proofs.thallusweb_float_sign.Statement.{statement}
 use Rattle.thallusweb.proofs.thallusweb_float_sign.Tie as tie
@@ -15,7 +15,7 @@ float-sign-words-requires c κs = search needs
 
 returns : tie.Need-returns
 returns c =
-    float-words (c .before .float-sign .result) (c .before .before .token-of .ensures) (c .before .float-sign .ensures)
+    float-sign-words (c .before .float-sign .result) (c .before .before .token-of .ensures) (c .before .float-sign .ensures)
     (c .float-sign-words .ensures)
 
 pub thallusweb-float-sign-spec : {M : Type 1} → statement M

@@ -1,5 +1,5 @@
 -- `thallusweb_integer_sign` keeps its promise: the words are those of the sign. Assumes nothing.
-use Rattle.thallusweb.proofs.WordLaws.{integer-words}
+use Rattle.thallusweb.proofs.WordLaws.{integer-sign-words}
 use borrow.Author.Needs.{needs}
 use Rattle.thallusweb.proofs.thallusweb_integer_sign.Statement.{statement}
 use Rattle.thallusweb.proofs.thallusweb_integer_sign.Tie as tie
@@ -15,7 +15,7 @@ integer-sign-words-requires c κs = search needs
 
 returns : tie.Need-returns
 returns c =
-    integer-words (c .before .integer-sign .result) (c .before .before .token-of .ensures) (c .before .integer-sign .ensures)
+    integer-sign-words (c .before .integer-sign .result) (c .before .before .token-of .ensures) (c .before .integer-sign .ensures)
     (c .integer-sign-words .ensures)
 
 pub thallusweb-integer-sign-spec : {M : Type 1} → statement M
