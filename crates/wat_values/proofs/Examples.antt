@@ -1,12 +1,16 @@
--- The examples of `Reads`: what the readers leave of `-10.5e+3` and of `-1_0.5e+3`. Assumes nothing.
+-- The examples of `Reads`, what the readers leave of `-10.5e+3` and of `-1_0.5e+3`, and of `IntegerWord`, the word of
+-- `-0x1_0`. Assumes nothing.
 use mathlib.Core.Path.{refl}
 use mathlib.Core.Bool.{true, false}
+use native.Mathlib.Omega.{arith}
 use Rattle.wat.specs.declared.FloatKind.the-variants.{Normal}
 use Rattle.wat.specs.declared.Sign.the-variants.{Minus}
 use Rattle.wat.specs.declared.TokenKind.the-variants.{Float}
 use Rattle.wat_values.specs.declared.FloatPart.the-variants as the
 use Rattle.wat.specs.Bytes.{bytes, between}
 use Rattle.wat.specs.Numbers.{digit, marks, Digits, Signed, Fraction, Exponent}
+use Rattle.wat.specs.Strings.{Hex}
+use Rattle.wat_values.specs.Integers.{Num, Word, IntegerWord}
 use Rattle.wat_values.specs.Values.{Reader, part, copy, copyOrPart, bare, Split, Reads}
 
 five : Digits false (bytes "5")
@@ -67,3 +71,11 @@ gap-fraction = Reads.a-fraction gap five
 gap-exponent : Reads (Reader.float the.Exponent) (Float (Normal true false)) (bytes "-1_0.5e+3") (copy (bytes "3"))
 unfolding copyOrPart bare
 gap-exponent = Reads.an-exponent gap Signed.plus three
+
+-- ---- words
+
+sixteen : Num true (bytes "1_0") 16
+sixteen = Num.gap (Num.one (Hex.digit 1 (omega arith), omega arith)) (Hex.digit 0 (omega arith), omega arith)
+
+sixteen-word : IntegerWord 32 (bytes "-0x1_0") 0xFFFFFFF0
+sixteen-word = IntegerWord.literal Signed.minus sixteen refl (Word.minus {n = 16} (omega arith) (omega arith) refl)

@@ -8,6 +8,8 @@ use mathlib.Core.List.{List, [], _∷_, _++_}
 use native.Mathlib.Omega.{arith}
 use lib.ListN.{length, drop}
 use lib.Seq.{take-take}
+use Rattle.wat.specs.declared.{IntegerKind.IntegerKind, TokenKind.TokenKind}
+use Rattle.wat.specs.declared.TokenKind.the-variants as kind
 use Rattle.wat.specs.declared.{Token.Token, LexError.LexError, Refusal.Refusal, Refusal.the-variants.Lexical, Listed.Listed}
 use Rattle.wat_values.specs.declared.Reading.{Reading}
 use Rattle.wat.specs.declared.Answer.the-variants as answer
@@ -22,13 +24,15 @@ use Rattle.wat.specs.Division.{Piece, lengths, Listing}
 use Rattle.wat_values.specs.Values.{Reader, Takes, Value, part, copy, absent, refused, Reads}
 use Rattle.wat_values.specs.Names.{Misnamed}
 use Rattle.wat_values.specs.Reading.{There, own, needs, found, Handed, Read, Second}
-use Rattle.wat_values.specs.Readable.{bytesOf, filled, Yields, moved, Readable, HasSign, SignRead, Passes}
+use Rattle.wat_values.specs.Readable.{bytesOf, filled, Yields, moved, Readable, HasSign, SignRead, WordRead, Passes}
+use Rattle.wat_values.specs.Integers.{Worded, ReadsWord}
 use Rattle.wat.proofs.Basics.{differ}
 use Rattle.wat_laws.proofs.Listings.{listed-whole}
 use Rattle.wat_values.proofs.OneValue.{reads-one}
 use Rattle.wat_values.proofs.SomeValue.{made, reads as reads-some}
 use Rattle.wat_values.proofs.Signs.{sign-one, sign-found}
 use Rattle.wat_values.proofs.OneReading.{read-one}
+use Rattle.wat_values.proofs.IntegerLaws.{worded-some}
 use Rattle.wat_values.proofs.ValueLengths.{needs-short}
 use Rattle.wat_values.proofs.ValueLaws.{Within, within}
 use Rattle.wat_values.proofs.ReadingLaws.{at-piece, is-token, token-long, is-there, is-alone, listed-stands, copy-taken}
@@ -86,6 +90,21 @@ token-signed {text = text} token start g l h =
       alone = f .2 (own text token) (moved token) (is-alone token start g l) refl;
     }
 
+token-valued : {σ : Settings} {text : List ℕ} {i : IntegerKind} (token : Token) (N : ℕ) → Stands text 0
+    → WellFormed (drop (token .offset) text) → Lexed σ (drop (token .offset) text) (answer.Token (token .kind) (token .len))
+    → token .kind ≡ kind.Integer i → WordRead N text token
+token-valued {text = text} {i = i} token N start g l e =
+    let w = own text token in
+    let k : Tok (kind.Integer i) w = subst (λ (z : TokenKind). Tok z w) e (is-token l) in
+    let a = worded-some N (made k .0) in
+    let same : own w (moved token) ≡ w = take-take (token .len) (token .len) (drop (token .offset) text) (omega arith) in
+    record {
+      answer = a .0;
+      is = a .1;
+      there = ReadsWord.integer (is-there token start g l) e (a .1);
+      alone = ReadsWord.integer (is-alone token start g l) e (subst (λ (z : List ℕ). Worded N z (a .0)) (sym same) (a .1));
+    }
+
 -- what passes can be read: each text that the listing carries from byte 0 to its end
 pub passes-readable : {σ : Settings} {text : List ℕ} {budget : ℕ} {list l : List ℕ} {r : Listed}
     → Listing σ text 0 budget list r l → r .stop ≡ stop.End → Passes σ text list r l
@@ -100,4 +119,7 @@ passes-readable x e =
       signed = λ us vs t q h.
           let p = at-piece (start .between) (whole .divided) us vs t q in
           token-signed (record { kind = t .kind; offset = lengths us; len = t .len }) start (p .0) (p .1) h;
+      valued = λ us vs t q e N.
+          let p = at-piece (start .between) (whole .divided) us vs t q in
+          token-valued (record { kind = t .kind; offset = lengths us; len = t .len }) N start (p .0) (p .1) e;
     }

@@ -1,7 +1,7 @@
 -- What passes can be read: a text that the listing carries from byte 0 to its end is divided in one way only, and each
 -- of its tokens, handed to its reader with a buffer no shorter than itself, yields the value of the definitions, and to
--- the sign call its sign. The one refusal left is a name that is empty or not UTF-8. `Passes` says it; it is proved as
--- `passes-readable`.
+-- the sign call its sign. The one refusal left is a name that is empty or not UTF-8. The value call of an integer
+-- yields its word, or 40 where it is out of range. `Passes` says it; it is proved as `passes-readable`.
 use Prim.Native.Nat.{ℕ, _≤_}
 use mathlib.Core.Path.{_≡_}
 use mathlib.Core.Logic.{_↔_}
@@ -14,6 +14,7 @@ use Rattle.wat.specs.declared.{Settings.Settings, Listed.Listed}
 use Rattle.wat.specs.declared.TokenKind.the-variants as kind
 use Rattle.wat.specs.declared.FloatKind.the-variants.{Inf, Nan, NanVal}
 use Rattle.wat_values.specs.declared.{Reading.Reading, IntegerSign.IntegerSign, FloatSign.FloatSign}
+use Rattle.wat_values.specs.declared.IntegerValue.{IntegerValue}
 use Rattle.wat_values.specs.declared.Reading.the-variants.{Refused}
 use Rattle.wat_values.specs.declared.IntegerSign.the-variants as integer
 use Rattle.wat_values.specs.declared.FloatSign.the-variants as float
@@ -23,6 +24,7 @@ use Rattle.wat.specs.Whole.{Whole}
 use Rattle.wat_values.specs.Values.{Reader, Takes, Value, part, copy, absent, refused, Split, Reads}
 use Rattle.wat_values.specs.Names.{Misnamed}
 use Rattle.wat_values.specs.Reading.{own, needs, found, Read, Second, ReadsSign, ReadsNegative}
+use Rattle.wat_values.specs.Integers.{Worded, ReadsWord}
 
 -- ---- values
 
@@ -101,6 +103,16 @@ pub record SignRead (text : List ℕ) (token : Token) : Type 0 where
   pub there : Signs text token sign
   pub alone : Signs (own text token) (moved token) sign
 
+-- ---- words of integers
+
+-- the value call for N bits answers the word of the token's own bytes, or 40 where they have none; where the text is
+-- its own bytes alone too
+pub record WordRead (N : ℕ) (text : List ℕ) (token : Token) : Type 0 where
+  pub answer : IntegerValue
+  pub is : Worded N (own text token) answer
+  pub there : ReadsWord N text token answer
+  pub alone : ReadsWord N (own text token) (moved token) answer
+
 -- ---- texts
 
 -- a text passes, with the report r and the list l afterwards
@@ -113,3 +125,7 @@ pub record Passes (σ : Settings) (text list : List ℕ) (r : Listed) (l : List 
   -- and of each that has a sign the sign is read
   pub signed : (us vs : List Piece) (t : Piece) → whole .tokens ≡ us ++ (t ∷ vs) → HasSign (t .kind)
       → SignRead text (record { kind = t .kind; offset = lengths us; len = t .len })
+  -- and of each integer the word of each width is
+  pub valued : (us vs : List Piece) (t : Piece) → whole .tokens ≡ us ++ (t ∷ vs) → {i : IntegerKind}
+      → t .kind ≡ kind.Integer i → (N : ℕ)
+      → WordRead N text (record { kind = t .kind; offset = lengths us; len = t .len })

@@ -20,7 +20,7 @@ pub record There (text : List ℕ) (token : Token) : Type 0 where
   pub stands : Stands text (token .offset)
   pub lexed : Lexed lenient (drop (token .offset) text) (answer.Token (token .kind) (token .len))
 
--- the place of a refusal that has none: 30, 31 and 32
+-- the place of a refusal that has none: 30, 31 and 32, and 40
 abbrev pub noPlace : ℕ
 noPlace = 0
 

@@ -31,3 +31,10 @@ pub enum FloatSign {
     Absent,
     Negative(bool),
 }
+
+// The value of an integer: a refusal and its place; out of range, 40; or its word of so many bits.
+pub enum IntegerValue {
+    Refused { refusal: Refusal, place: usize },
+    OutOfRange,
+    Word(u64),
+}
