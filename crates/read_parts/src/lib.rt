@@ -135,7 +135,7 @@ fn payload(text: &[u8], at: usize, end: usize, underscores: bool, buffer: &mut [
 }
 
 // Past the sign and 0x: where the digits of a number begin.
-fn past_prefix(text: &[u8], at: usize, end: usize, hex: bool) -> usize
+pub fn past_prefix(text: &[u8], at: usize, end: usize, hex: bool) -> usize
     requires { ⌜ At (IsFloat hex) (now text) at end ⌝ }
     ensures { λ r. ⌜ Leaves hex (now (text .entry)) at end (λ p f e. p ++ (f ++ e)) r ⌝ }
 {

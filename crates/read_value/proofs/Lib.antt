@@ -1,0 +1,3 @@
+mod AmountLaws
+mod WordLaws
+mod ReadLaws
