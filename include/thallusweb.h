@@ -1,8 +1,8 @@
 /* Thallusweb: a lexer for the WebAssembly text format with one proved reading.
  *
  * thallusweb_list takes a text apart into tokens, thallusweb_parse gives one token; thallusweb_read and thallusweb_part
- * give what a string, a name or a number among them stands for; thallusweb_move counts lines and columns. The program
- * examples/c/list.c does all of this.
+ * give what a string, a name or a number among them stands for, and thallusweb_integer_32 and thallusweb_integer_64 an
+ * integer's value; thallusweb_move counts lines and columns. The program examples/c/list.c does all of this.
  *
  * A text is an array of bytes in UTF-8, at most THALLUSWEB_MAX_TEXT of them; another is refused by number. No 0 byte
  * ends it: a 0 is a character like others. Lengths, positions, offsets and places count bytes.
@@ -35,7 +35,7 @@ extern "C" {
 
 /* The number of this header's words, constants and prototypes. It rises whenever one of them changes, comes or goes: a
  * library belongs to this header where thallusweb_version returns THALLUSWEB_VERSION. */
-#define THALLUSWEB_VERSION 1
+#define THALLUSWEB_VERSION 2
 uint32_t thallusweb_version(void);
 
 /* The longest text that is lexed, the bytes of a token's record in a list, and a buffer that holds every message. */
@@ -51,6 +51,7 @@ uint32_t thallusweb_version(void);
 #define THALLUSWEB_READ_WORDS 5
 #define THALLUSWEB_PART_WORDS 3
 #define THALLUSWEB_SIGN_WORDS 5
+#define THALLUSWEB_INTEGER_WORDS 5
 #define THALLUSWEB_MESSAGE_WORDS 5
 #define THALLUSWEB_TOKEN_WORDS 3
 
@@ -75,7 +76,7 @@ enum {
     THALLUSWEB_ABSENT = 0,    /* read, float_sign: the token has no such thing; part: an empty part */
     THALLUSWEB_IN_TEXT = 1,   /* read, part: a part of the text */
     THALLUSWEB_IN_BUFFER = 3, /* read, part: a part of the buffer */
-    THALLUSWEB_TOLD = 1       /* integer_sign, float_sign, message: out[1] says it */
+    THALLUSWEB_TOLD = 1       /* integer_sign, float_sign, integer_32, integer_64, message: out[1] says it */
 };
 
 /* A token's kind: one of the first fifteen numbers, which `kind & THALLUSWEB_KIND_MASK` is, plus the bits of what a
@@ -141,7 +142,8 @@ enum {
     THALLUSWEB_BUFFER_TOO_SHORT = 32, /* the copy or the message is longer than the buffer */
     THALLUSWEB_LIST_FULL = 33,        /* the list has no room for the next token; out[0] is THALLUSWEB_FULL */
     THALLUSWEB_NO_MESSAGE = 34,       /* no error has that number and those values */
-    THALLUSWEB_COUNTER_FULL = 35      /* a line or column over 4,294,967,295: thallusweb_move returns false */
+    THALLUSWEB_COUNTER_FULL = 35,     /* a line or column over 4,294,967,295: thallusweb_move returns false */
+    THALLUSWEB_OUT_OF_RANGE = 40      /* no word of so many bits is the integer's value */
 };
 
 /* Whether the text, here of any length, is UTF-8. out: 0, 0, 0; or THALLUSWEB_REFUSED, valid-up-to and the number of
@@ -232,6 +234,17 @@ void thallusweb_integer_sign(const uint8_t *text, size_t len, const uint64_t tok
  * THALLUSWEB_ABSENT for any other float, whose - is in its integral part; or THALLUSWEB_REFUSED, by 1 to 4, 30 or 31.
  * Cost: a check of the whole text, then the token. */
 void thallusweb_float_sign(const uint8_t *text, size_t len, const uint64_t token[3], uint64_t out[5]);
+
+/* An integer's value as a word of 32 or 64 bits, by the standard: without a sign a number below 2^32 or 2^64; with a +
+ * or a - one of the signed range, by its two's complement. In 32 bits -1 is 4294967295, -2147483648 passes and
+ * +2147483648 does not; -0 is 0. Any number of zeros may stand in front. token: as for thallusweb_read. out[0]:
+ *   THALLUSWEB_TOLD      out[1] the word
+ *   THALLUSWEB_REFUSED   1 to 4, 30, 31 or 40, tested in this order: out[1] the number, out[2] its place, out[3] and
+ *                        out[4] its values
+ * Cost: a check of the whole text, then the token. Handed the token's own bytes as a text, with the offset 0, a call
+ * gives the same value for the cost of the token alone. */
+void thallusweb_integer_32(const uint8_t *text, size_t len, const uint64_t token[3], uint64_t out[5]);
+void thallusweb_integer_64(const uint8_t *text, size_t len, const uint64_t token[3], uint64_t out[5]);
 
 /* The message of an error, 10 to 24: its number and its values, as a refusal has them. Values that the error does not
  * carry, and those of 22, may be anything. out[0]: THALLUSWEB_TOLD, with the message's length in out[1] and the message

@@ -33,6 +33,8 @@ mod c {
             buffer_len: usize,
             out: *mut u64,
         );
+        pub fn thallusweb_integer_32(text: *const u8, len: usize, token: *const u64, out: *mut u64);
+        pub fn thallusweb_integer_64(text: *const u8, len: usize, token: *const u64, out: *mut u64);
         pub fn thallusweb_message(
             number: u64,
             first: u64,
@@ -46,7 +48,7 @@ mod c {
 }
 
 /// The version of the header that these bindings are written from.
-const VERSION: u32 = 1;
+const VERSION: u32 = 2;
 
 /// Stops the program if it is linked with a library of another version: its words would be misread. Asks once.
 #[inline]
@@ -122,6 +124,22 @@ pub fn read(text: &[u8], reader: u64, token: [u64; 3], buffer: &mut [u8]) -> [u6
     // SAFETY: `text` and `buffer` are slices, with their lengths, and `buffer` is borrowed alone; `token` has the 3 words that are read,
     // and is a copy; `out` has the 5 that are written.
     unsafe { c::thallusweb_read(text.as_ptr(), text.len(), reader, token.as_ptr(), at, room, out.as_mut_ptr()) };
+    out
+}
+
+pub fn integer_32(text: &[u8], token: [u64; 3]) -> [u64; 5] {
+    same_version();
+    let mut out = [0; 5];
+    // SAFETY: `text` is a slice, with its length; `token` has the 3 words that are read, and is a copy; `out` has the 5 that are written.
+    unsafe { c::thallusweb_integer_32(text.as_ptr(), text.len(), token.as_ptr(), out.as_mut_ptr()) };
+    out
+}
+
+pub fn integer_64(text: &[u8], token: [u64; 3]) -> [u64; 5] {
+    same_version();
+    let mut out = [0; 5];
+    // SAFETY: as for `integer_32`, whose arguments these are.
+    unsafe { c::thallusweb_integer_64(text.as_ptr(), text.len(), token.as_ptr(), out.as_mut_ptr()) };
     out
 }
 

@@ -48,7 +48,7 @@ pub enum TokenKind {
     Annotation,
     /// A run that is nothing else.
     Reserved,
-    /// A whole number; [`Token::integer`] takes what it carries.
+    /// A whole number; [`Token::integer`] takes what it carries, and [`Token::u32`] gives its value.
     Integer(IntegerKind),
     /// Any other number; [`Token::float`] takes what it carries.
     Float(FloatKind),
@@ -573,6 +573,17 @@ fn text(bytes: Cow<'_, [u8]>) -> Cow<'_, str> {
 const SHORT: usize = 64;
 
 impl Token {
+    /// Its own bytes, if the text has so many there.
+    fn own<'a>(&self, s: &'a str) -> Option<&'a str> {
+        s.get(self.offset..self.offset.checked_add(self.len as usize)?)
+    }
+
+    /// Its own bytes as a text, and the token's words there; refused by 30 where the text has none such.
+    fn alone<'a>(&self, s: &'a str) -> Result<(&'a [u8], [u64; 3]), Error> {
+        let own = self.own(s).ok_or_else(|| Error::new(Refusal::NotThatToken, None))?;
+        Ok((own.as_bytes(), [self.kind.number(), 0, self.len.into()]))
+    }
+
     /// What a reader gives of the token, which is one of the text; nothing for a part that its kind lacks. Takes the time of
     /// the token and not of the text.
     ///
@@ -592,10 +603,7 @@ impl Token {
     /// [`Refusal::NotThatToken`] where the text has no such token there, [`Refusal::NotThatKind`] where the reader takes other kinds, and a
     /// [`Refusal::Lex`] at the token's offset where a name is empty or not UTF-8.
     pub fn read<'a>(&self, s: &'a str, reader: Reader) -> Result<Option<Cow<'a, [u8]>>, Error> {
-        let not_there = || Error::new(Refusal::NotThatToken, None);
-        let end = self.offset.checked_add(self.len as usize).ok_or_else(not_there)?;
-        let own = s.get(self.offset..end).ok_or_else(not_there)?.as_bytes();
-        let token = [self.kind.number(), 0, self.len.into()];
+        let (own, token) = self.alone(s)?;
         let (mut short, mut long) = ([0; SHORT], Vec::new());
         let mut buffer = &mut short[..];
         let [mut what, mut start, mut len, mut first, mut second] = ffi::read(own, reader as u64, token, buffer);
@@ -625,7 +633,7 @@ impl Token {
     /// The token's own bytes; empty where the text has none such.
     #[must_use]
     pub fn src<'a>(&self, s: &'a str) -> &'a str {
-        self.offset.checked_add(self.len as usize).and_then(|end| s.get(self.offset..end)).unwrap_or_default()
+        self.own(s).unwrap_or_default()
     }
 
     /// The name of an Id, without its `$`.
@@ -678,6 +686,93 @@ impl Token {
         let token = Token { kind: TokenKind::Integer(kind), ..*self };
         debug_assert!(token.is_there(s), "{token:?} is no token of the text");
         Integer { sign: kind.sign, val: token.part(s, Reader::Integer).unwrap_or_default(), hex: kind.hex }
+    }
+
+    /// The word that a call of the library for so many bits gives.
+    fn word(&self, s: &str, call: fn(&[u8], [u64; 3]) -> [u64; 5]) -> Result<u64, Error> {
+        let (own, token) = self.alone(s)?;
+        match call(own, token) {
+            [1, word, ..] => Ok(word),
+            [_, number, place, first, second] => {
+                Err(Error::from_words([number, place, first, second]).moved(self.offset))
+            }
+        }
+    }
+
+    /// The value of an Integer, which is one of the text, as a word of 32 bits, by the standard; that of a negative number is its two's
+    /// complement. Takes the time of the token and not of the text.
+    ///
+    /// ```
+    /// use thallusweb::Refusal;
+    /// use thallusweb::lexer::Lexer;
+    ///
+    /// let word = |text: &str| Lexer::new(text).parse(&mut 0)?.unwrap().u32(text);
+    /// assert_eq!(word("0x1_0000"), Ok(65_536));
+    /// assert_eq!(word("4294967295"), Ok(u32::MAX));
+    /// assert_eq!(word("-2147483648"), Ok(0x8000_0000));
+    /// assert_eq!(word("+2147483648").unwrap_err().refusal(), &Refusal::OutOfRange);
+    /// ```
+    ///
+    /// # Errors
+    ///
+    /// [`Refusal::OutOfRange`] for all but these literals: numbers below 2^32 without a sign, below 2^31 with `+`, and up to 2^31 with `-`,
+    /// decimal or hexadecimal, with underscores, and with any number of zeros in front. (wast's parser takes numbers below 2^32 with `+`
+    /// too, such as `+2147483648`.) [`Refusal::NotThatToken`] where the text has no such token there, and [`Refusal::NotThatKind`] where
+    /// it is no Integer.
+    pub fn u32(&self, s: &str) -> Result<u32, Error> {
+        self.word(s, ffi::integer_32).map(|word| word as u32)
+    }
+
+    /// An Integer's value as a word of 64 bits, as [`Token::u32`] has it for 32.
+    ///
+    /// ```
+    /// use thallusweb::lexer::Lexer;
+    ///
+    /// let word = |text: &str| Lexer::new(text).parse(&mut 0)?.unwrap().u64(text);
+    /// assert_eq!(word("18_446_744_073_709_551_615"), Ok(u64::MAX));
+    /// assert_eq!(word("-1"), Ok(u64::MAX));
+    /// ```
+    ///
+    /// # Errors
+    ///
+    /// [`Refusal::OutOfRange`] for all but numbers below 2^64 without a sign, below 2^63 with `+`, and up to 2^63 with `-`; the others are
+    /// those of [`Token::u32`].
+    pub fn u64(&self, s: &str) -> Result<u64, Error> {
+        self.word(s, ffi::integer_64)
+    }
+
+    /// The word of [`Token::u32`] as a signed number: both take the same literals, so that 4294967295 is -1.
+    ///
+    /// ```
+    /// use thallusweb::lexer::Lexer;
+    ///
+    /// let value = |text: &str| Lexer::new(text).parse(&mut 0)?.unwrap().i32(text);
+    /// assert_eq!(value("-2147483648"), Ok(i32::MIN));
+    /// assert_eq!(value("0xffff_fffe"), Ok(-2));
+    /// ```
+    ///
+    /// # Errors
+    ///
+    /// Those of [`Token::u32`].
+    pub fn i32(&self, s: &str) -> Result<i32, Error> {
+        self.u32(s).map(|word| word as i32)
+    }
+
+    /// The word of [`Token::u64`] as a signed number: both take the same literals.
+    ///
+    /// ```
+    /// use thallusweb::lexer::Lexer;
+    ///
+    /// let value = |text: &str| Lexer::new(text).parse(&mut 0)?.unwrap().i64(text);
+    /// assert_eq!(value("-0x8000_0000_0000_0000"), Ok(i64::MIN));
+    /// assert_eq!(value("18446744073709551615"), Ok(-1));
+    /// ```
+    ///
+    /// # Errors
+    ///
+    /// Those of [`Token::u64`].
+    pub fn i64(&self, s: &str) -> Result<i64, Error> {
+        self.u64(s).map(|word| word as i64)
     }
 
     /// A Float's parts; the kind is what its [`TokenKind`] carries. A token that is none fails a debug assertion; without these its parts

@@ -24,6 +24,8 @@ pub enum Refusal {
     NotThatKind,
     /// A line or column does not fit the place counter.
     CounterFull,
+    /// An integer's value does not fit so many bits.
+    OutOfRange,
 }
 
 impl Refusal {
@@ -39,6 +41,7 @@ impl Refusal {
             Refusal::NotThatToken => 30,
             Refusal::NotThatKind => 31,
             Refusal::CounterFull => 35,
+            Refusal::OutOfRange => 40,
         }
     }
 
@@ -51,6 +54,7 @@ impl Refusal {
             4 => Refusal::InsideCharacter,
             31 => Refusal::NotThatKind,
             35 => Refusal::CounterFull,
+            40 => Refusal::OutOfRange,
             _ => LexError::from_words(number, values).map_or(Refusal::NotThatToken, Refusal::Lex),
         }
     }
@@ -67,6 +71,7 @@ impl fmt::Display for Refusal {
             Refusal::NotThatToken => f.write_str("no such token there"),
             Refusal::NotThatKind => f.write_str("a token of another kind than the reader's"),
             Refusal::CounterFull => f.write_str("line or column too large"),
+            Refusal::OutOfRange => f.write_str("integer out of range"),
         }
     }
 }

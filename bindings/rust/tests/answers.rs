@@ -54,6 +54,54 @@ fn readers_borrow_where_nothing_was_escaped() {
     assert_eq!(one(text).float(text, kind), expected);
 }
 
+/// The request's examples, edges of both widths, and what is refused.
+#[test]
+fn values_of_integers() {
+    let values = |text: &str| {
+        let token = one(text);
+        (token.u32(text).ok(), token.i32(text).ok(), token.u64(text).ok(), token.i64(text).ok())
+    };
+    let small = |n: u32| (Some(n), Some(n as i32), Some(n.into()), Some(n.into()));
+    let negative = |n: i32| (Some(n as u32), Some(n), Some(i64::from(n) as u64), Some(n.into()));
+    let wide = |n: u64| (None, None, Some(n), Some(n as i64));
+    assert_eq!(values("0"), small(0));
+    assert_eq!(values("-0"), small(0));
+    assert_eq!(values("+0x7fff_FFFF"), small(0x7fff_ffff));
+    assert_eq!(values("4294967295"), small(u32::MAX));
+    assert_eq!(values("4294967296"), wide(1 << 32));
+    assert_eq!(values("-2147483648"), negative(i32::MIN));
+    assert_eq!(values("+2147483648"), wide(1 << 31));
+    assert_eq!(values("-2147483649"), wide(-2_147_483_649_i64 as u64));
+    assert_eq!(values("18446744073709551615"), wide(u64::MAX));
+    assert_eq!(values("-0x8000000000000000"), wide(1 << 63));
+    for text in ["18446744073709551616", "+9223372036854775808", "-9223372036854775809"] {
+        assert_eq!(values(text), (None, None, None, None));
+    }
+    // zeros in front without limit
+    let text = format!("(a {}7)", "0_0".repeat(1_000));
+    let token = Lexer::new(&text).parse(&mut 3).unwrap().unwrap();
+    assert_eq!((token.len, token.u32(&text), token.i64(&text)), (3_001, Ok(7), Ok(7)));
+    // refusals, none of which has a place
+    let text = "(18446744073709551616 1.5 x)";
+    let at = |mut position| Lexer::new(text).parse(&mut position).unwrap().unwrap();
+    let integer = at(1);
+    let rows = [
+        (Token { len: 21, ..integer }, Refusal::NotThatToken),
+        (Token { len: 99, ..integer }, Refusal::NotThatToken),
+        (Token { offset: usize::MAX, ..integer }, Refusal::NotThatToken),
+        (Token { kind: TokenKind::Keyword, ..integer }, Refusal::NotThatToken),
+        (at(22), Refusal::NotThatKind),
+        (at(26), Refusal::NotThatKind),
+        (integer, Refusal::OutOfRange),
+    ];
+    for (token, refusal) in rows {
+        let refused = Err(Error::from(refusal));
+        assert_eq!((token.u32(text), token.i32(text).map(|n| n as u32)), (refused.clone(), refused.clone()));
+        assert_eq!(token.u64(text), token.i64(text).map(|n| n as u64));
+        assert_eq!(token.u64(text).map(|n| n as u32), refused);
+    }
+}
+
 #[test]
 fn names() {
     assert_eq!(one("$\"a b\"").id("$\"a b\"").unwrap(), "a b");
@@ -97,6 +145,7 @@ fn nothing_panics() {
             for len in [0, 1, 2, u32::MAX] {
                 let token = Token { kind: TokenKind::String, offset: position, len };
                 let _ = (token.src(text), token.id(text), token.annotation(text), token.read(text, Reader::Payload));
+                let _ = (token.u32(text), token.u64(text), token.i32(text), token.i64(text));
             }
         }
     }
@@ -186,6 +235,7 @@ fn refusals() {
         (30, Refusal::NotThatToken, "no such token there"),
         (31, Refusal::NotThatKind, "a token of another kind than the reader's"),
         (35, Refusal::CounterFull, "line or column too large"),
+        (40, Refusal::OutOfRange, "integer out of range"),
     ];
     for (number, refusal, message) in own {
         assert_eq!((refusal.number(), refusal.to_string()), (number, message.to_string()));

@@ -3,13 +3,17 @@ use Prim.Native.Nat.{ℕ}
 use mathlib.Core.List.{List, [], _∷_}
 use Rattle.wat.specs.declared.{Sign.Sign}
 use Rattle.wat_values.specs.declared.{Reading.Reading, IntegerSign.IntegerSign, FloatSign.FloatSign}
+use Rattle.wat_values.specs.declared.IntegerValue.{IntegerValue}
 use Rattle.messages.specs.declared.Told.{Told}
 use Rattle.wat.specs.declared.Sign.the-variants.{Unsigned, Plus, Minus}
 use Rattle.wat_values.specs.declared.Reading.the-variants as reading
 use Rattle.wat_values.specs.declared.IntegerSign.the-variants as integer
+use Rattle.wat_values.specs.declared.IntegerValue.the-variants as value
 use Rattle.wat_values.specs.declared.FloatSign.the-variants as float
 use Rattle.messages.specs.declared.Told.the-variants as message
 use Rattle.wat.specs.Cases.{flag}
+use Rattle.wat_values.specs.Reading.{noPlace}
+use Rattle.wat_values.specs.Integers.{outOfRange}
 use Rattle.c_words.specs.Words.{refusedWords}
 
 -- what a reader answers of a token: 0 absent, 1 a part of the text, 2 a refusal, 3 a part of the buffer
@@ -27,6 +31,12 @@ signWord Minus = 2
 abbrev pub integerSignWords : IntegerSign → List ℕ
 integerSignWords (integer.Refused r p) = refusedWords r p
 integerSignWords (integer.Sign s) = 1 ∷ signWord s ∷ 0 ∷ 0 ∷ 0 ∷ []
+
+-- the word of an integer, or a refusal; a literal that is out of range is one, and has no place and no values
+abbrev pub integerWords : IntegerValue → List ℕ
+integerWords (value.Refused r p) = refusedWords r p
+integerWords value.OutOfRange = 2 ∷ outOfRange ∷ noPlace ∷ 0 ∷ 0 ∷ []
+integerWords (value.Word v) = 1 ∷ v ∷ 0 ∷ 0 ∷ 0 ∷ []
 
 abbrev pub floatSignWords : FloatSign → List ℕ
 floatSignWords (float.Refused r p) = refusedWords r p

@@ -1,10 +1,12 @@
 // The answers of the readers and of the messages as words, for C. include/thallusweb.h explains each word.
 ghost use mathlib.Core.Path.{_≡_};
-ghost use Rattle.c_read_words.specs.Words.{readingWords, integerSignWords, floatSignWords, messageWords};
+ghost use Rattle.c_read_words.specs.Words.{readingWords, integerSignWords, integerWords, floatSignWords};
+ghost use Rattle.c_read_words.specs.Words.{messageWords};
 use messages::Told;
 use wat::Sign;
 use wat_values::FloatSign;
 use wat_values::IntegerSign;
+use wat_values::IntegerValue;
 use wat_values::Reading;
 
 // What a reader found of a token.
@@ -29,6 +31,16 @@ pub fn integer_sign_words(s: IntegerSign) -> [u64; 5]
             Sign::Plus => [1, 1, 0, 0, 0],
             Sign::Minus => [1, 2, 0, 0, 0],
         },
+    }
+}
+
+pub fn integer_words(v: IntegerValue) -> [u64; 5]
+    ensures { λ w. ⌜ w ≡ integerWords v ⌝ }
+{
+    match v {
+        IntegerValue::Refused { refusal, place } => c_words::refused_words(refusal, place),
+        IntegerValue::OutOfRange => [2, 40, 0, 0, 0],
+        IntegerValue::Word(word) => [1, word, 0, 0, 0],
     }
 }
 

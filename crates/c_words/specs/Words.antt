@@ -10,7 +10,7 @@ use Rattle.wat.specs.Cases.{kindNumber, number, listFull}
 
 -- the number of the words and constants of include/thallusweb.h: a header and a library of one number belong together
 abbrev pub wordsVersion : ℕ
-wordsVersion = 1
+wordsVersion = 2
 
 -- 0, or 2 and its two numbers
 abbrev pub checkedWords : Checked → List ℕ

@@ -10,7 +10,7 @@ use wat::Refusal;
 use wat::Stop;
 
 // The number of the words and constants of include/thallusweb.h, there THALLUSWEB_VERSION. It rises when one changes.
-pub const VERSION: u32 = 1;
+pub const VERSION: u32 = 2;
 
 pub fn version() -> u32
     ensures { λ r. ⌜ r ≡ wordsVersion ⌝ }

@@ -5,13 +5,16 @@ use mathlib.Core.List.{List}
 use lib.ListN.{take, drop}
 use Rattle.wat.specs.declared.{Token.Token, Refusal.Refusal}
 use Rattle.wat_values.specs.declared.{Reading.Reading, IntegerSign.IntegerSign, FloatSign.FloatSign}
+use Rattle.wat_values.specs.declared.IntegerValue.{IntegerValue}
 use Rattle.wat.specs.declared.Answer.the-variants as answer
 use Rattle.wat_values.specs.declared.Reading.the-variants as reading
 use Rattle.wat_values.specs.declared.IntegerSign.the-variants as integer
 use Rattle.wat_values.specs.declared.FloatSign.the-variants as float
+use Rattle.wat_values.specs.declared.IntegerValue.the-variants as value
 use Rattle.wat.specs.Settings.{lenient}
 use Rattle.wat.specs.Lexing.{Lexed}
 use Rattle.wat_values.specs.Reading.{There, Missing, Read, ReadsSign, ReadsNegative}
+use Rattle.wat_values.specs.Integers.{ReadsWord}
 use Rattle.wat.proofs.Unique.{tok-some}
 use Rattle.read_call.specs.ByNumber.{ReadBy, Nowhere}
 
@@ -47,3 +50,9 @@ module _ {text : List ℕ} {token : Token} (none : token .len ≡ 0) where
   negative-nowhere P (ReadsNegative.missing x) f = f _ _ (nowhere x)
   negative-nowhere P (ReadsNegative.other-kind t n) f = absurd (not-there t)
   negative-nowhere P (ReadsNegative.sign t e) f = absurd (not-there t)
+
+  pub word-nowhere : {N : ℕ} {a : IntegerValue} (P : IntegerValue → Type 0) → ReadsWord N text token a
+      → ((r : Refusal) (p : ℕ) → Nowhere text (token .offset) r p → P (value.Refused r p)) → P a
+  word-nowhere P (ReadsWord.missing x) f = f _ _ (nowhere x)
+  word-nowhere P (ReadsWord.other-kind t n) f = absurd (not-there t)
+  word-nowhere P (ReadsWord.integer t e w) f = absurd (not-there t)

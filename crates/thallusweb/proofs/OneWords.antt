@@ -9,20 +9,22 @@ use Rattle.wat.specs.declared.{Token.Token, Refusal.Refusal}
 use Rattle.wat_values.specs.declared.Reading.the-variants as reading
 use Rattle.wat.specs.declared.Settings.{Settings}
 use Rattle.wat_values.specs.Reading.{ReadsSign, ReadsNegative, Second}
+use Rattle.wat_values.specs.Integers.{ReadsWord}
 use Rattle.wat.proofs.Basics.{differ}
 use Rattle.wat.proofs.Utf8Laws.{says-one}
 use Rattle.wat_laws.proofs.OneCall.{parses-one, annotates-one}
 use Rattle.wat_laws.proofs.Listings.{listing-one}
 use Rattle.wat_values.proofs.OneReading.{reads-sign-one, reads-negative-one}
+use Rattle.wat_values.proofs.IntegerLaws.{reads-word-one}
 use Rattle.messages.proofs.ByNumberLaws.{tells-by-one}
 use Rattle.c_words.specs.Words.{checkedWords, refusedWords, foundWords, parsedWords, listedWords}
-use Rattle.c_read_words.specs.Words.{readingWords, integerSignWords, floatSignWords, messageWords}
+use Rattle.c_read_words.specs.Words.{readingWords, integerSignWords, integerWords, floatSignWords, messageWords}
 use Rattle.c_asked.proofs.OneAsked.{named-one, named-or-not}
 use Rattle.c_spots.specs.Spots.{PartWords}
 use Rattle.read_call.specs.ByNumber.{ReadBy}
 use Rattle.read_call.proofs.OneReader.{nowhere-one, read-by-one}
 use Rattle.thallusweb.specs.Promises.{Utf8Checked, ParsedWords, AnnotatedWords, ListedWords, Nameless, ReadWords}
-use Rattle.thallusweb.specs.Promises.{IntegerSignWords, FloatSignWords, MessageWords}
+use Rattle.thallusweb.specs.Promises.{IntegerSignWords, IntegerWords, FloatSignWords, MessageWords}
 
 pub utf8-checked-one : {text a b : List ℕ} → Utf8Checked text a → Utf8Checked text b → a ≡ b
 utf8-checked-one {text} (Utf8Checked.checked r s) (Utf8Checked.checked q t) = ap checkedWords (says-one text r q s t)
@@ -62,6 +64,13 @@ integer-sign-words-one {text} {w} (IntegerSignWords.read i p r) (IntegerSignWord
 integer-sign-words-one (IntegerSignWords.read i p r) (IntegerSignWords.nameless x) = absurd (named-or-not p (x .none))
 integer-sign-words-one (IntegerSignWords.nameless x) (IntegerSignWords.read i p r) = absurd (named-or-not p (x .none))
 integer-sign-words-one (IntegerSignWords.nameless x) (IntegerSignWords.nameless y) = nameless-one x y
+
+pub integer-words-one : {N : ℕ} {text w a b : List ℕ} → IntegerWords N text w a → IntegerWords N text w b → a ≡ b
+integer-words-one {N} {text} (IntegerWords.read i p r) (IntegerWords.read j q s) =
+    ap integerWords (reads-word-one (subst (λ (t : Token). ReadsWord N text t i) (named-one p q) r) s)
+integer-words-one (IntegerWords.read i p r) (IntegerWords.nameless x) = absurd (named-or-not p (x .none))
+integer-words-one (IntegerWords.nameless x) (IntegerWords.read i p r) = absurd (named-or-not p (x .none))
+integer-words-one (IntegerWords.nameless x) (IntegerWords.nameless y) = nameless-one x y
 
 pub float-sign-words-one : {text w a b : List ℕ} → FloatSignWords text w a → FloatSignWords text w b → a ≡ b
 float-sign-words-one {text} {w} (FloatSignWords.read i p r) (FloatSignWords.read j q s) =

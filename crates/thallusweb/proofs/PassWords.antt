@@ -10,6 +10,7 @@ use lib.ListN.{length, getD}
 use Rattle.wat.specs.declared.{TokenKind.TokenKind, LexError.LexError, Settings.Settings, Token.Token, Refusal.Refusal}
 use Rattle.wat.specs.declared.{Refusal.the-variants.Lexical, Stop.Stop, Listed.Listed}
 use Rattle.wat.specs.declared.Stop.the-variants as stop
+use Rattle.wat.specs.declared.TokenKind.the-variants as kind
 use Rattle.wat_values.specs.declared.Reading.{Reading}
 use Rattle.wat_values.specs.declared.Reading.the-variants as reading
 use Rattle.wat_values.specs.declared.IntegerSign.the-variants as integer
@@ -21,21 +22,22 @@ use Rattle.wat_laws.specs.Records.{kindAt, tokenWords}
 use Rattle.wat_values.specs.Values.{Reader, Takes, Value, Reads}
 use Rattle.wat_values.specs.Names.{Misnamed}
 use Rattle.wat_values.specs.Reading.{own, found, Second}
-use Rattle.wat_values.specs.Readable.{bytesOf, filled, Yields, Readable, SignOf, HasSign, Signs, SignRead, Passes}
+use Rattle.wat_values.specs.Integers.{Worded}
+use Rattle.wat_values.specs.Readable.{bytesOf, filled, Yields, Readable, SignOf, HasSign, Signs, SignRead, WordRead, Passes}
 use Rattle.c_words.specs.Words.{refusedWords, stopWords, listedWords}
 use Rattle.c_read_words.specs.Words.{readingWords}
 use Rattle.c_spots.specs.Spots.{PartWords}
 use Rattle.c_asked.specs.Asked.{Denotes}
 use Rattle.read_call.specs.ByNumber.{readers, nth, ReadBy}
-use Rattle.thallusweb.specs.Promises.{ListedWords, ReadWords, IntegerSignWords, FloatSignWords}
+use Rattle.thallusweb.specs.Promises.{ListedWords, ReadWords, IntegerSignWords, IntegerWords, FloatSignWords}
 use Rattle.thallusweb.specs.ReadableWords.{ownBytes, PartBytes, foundIn, YieldsWords, ReadableWords, SignsWords}
-use Rattle.thallusweb.specs.ReadableWords.{SignReadWords, PassesWords}
+use Rattle.thallusweb.specs.ReadableWords.{SignReadWords, WordReadWords, PassesWords}
 use Rattle.wat_laws.proofs.RecordLaws.{SaidOf, words-said, whole-decode}
 use Rattle.wat_values.proofs.ReadingLaws.{listed-stands}
 use Rattle.wat_values.proofs.Readable.{passes-readable}
 use Rattle.wat.proofs.KindNumbers.{injective}
 use Rattle.c_spots.proofs.SpotLaws.{part-words-one}
-use Rattle.thallusweb.proofs.OneWords.{read-words-one, integer-sign-words-one, float-sign-words-one}
+use Rattle.thallusweb.proofs.OneWords.{read-words-one, integer-sign-words-one, integer-words-one, float-sign-words-one}
 
 -- ---- the second call
 
@@ -143,6 +145,16 @@ module _ (text w : List ℕ) {t : Token} (d : Denotes w t) where
           let x = FloatSignWords.read (float.Negative (negative (r .sign))) d a in
           SignsWords.of-float e x (λ y z. float-sign-words-one z x)
 
+  valued-words : {N : ℕ} → WordRead N text t → WordReadWords N text w
+  valued-words {N} r =
+      let x = IntegerWords.read (r .answer) d (r .there) in
+      record {
+        answer = r .answer;
+        is = subst (λ (y : List ℕ). Worded N y (r .answer)) same-bytes (r .is);
+        words = x;
+        only = λ a z. integer-words-one z x;
+      }
+
 -- ---- a listing's words
 
 ended : (s : Stop) (rest : List ℕ) → getD (stopWords s ++ rest) 0 0 ≡ 0 → s ≡ stop.End
@@ -206,4 +218,8 @@ passes-words {σ} {text} {list} {l = l} (ListedWords.listed {r = r} x) e =
           subst (λ (j : TokenKind). SignReadWords j text (tokenWords l i)) z
           (signs-words text (tokenWords l i) (said-denotes s)
           (p .signed (s .before) (s .after) (s .token) (s .parted) (subst HasSign (sym z) has)));
+      valued = λ i h k n′ N.
+          let s = said i h in
+          valued-words text (tokenWords l i) (said-denotes s)
+          (p .valued (s .before) (s .after) (s .token) (s .parted) (said-kind s (kind.Integer k) n′) N);
     }

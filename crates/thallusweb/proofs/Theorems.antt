@@ -11,7 +11,7 @@ use Rattle.wat.specs.declared.{Refusal.Refusal, Token.Token, Settings.Settings,
 use Rattle.wat.specs.declared.{Fault.Fault, LexError.the-variants.UnexpectedEof}
 use Rattle.wat.specs.declared.Answer.the-variants as answer
 use Rattle.wat.specs.declared.Stop.the-variants as stop
-use Rattle.wat_values.specs.declared.{Reading.Reading, IntegerSign.IntegerSign, FloatSign.FloatSign}
+use Rattle.wat_values.specs.declared.{Reading.Reading, IntegerSign.IntegerSign, IntegerValue.IntegerValue, FloatSign.FloatSign}
 use Rattle.messages.specs.declared.Told.{Told}
 use Rattle.place.specs.declared.{Place.Place, Moved.Moved}
 use Rattle.wat.specs.Settings.{lenient}
@@ -23,9 +23,11 @@ use Rattle.wat.specs.Division.{Piece, lengths, Divided, Walked, recordSize, rec
 use Rattle.wat.specs.LexModel.{lex}
 use Rattle.wat_values.specs.Values.{Reader, Value, Reads}
 use Rattle.wat_values.specs.Reading.{Read, Second, ReadsSign, ReadsNegative}
+use Rattle.wat_values.specs.Integers.{ReadsWord}
 use Rattle.read_second.specs.Parts.{PartFor}
 use Rattle.messages.specs.Messages.{Tells}
 use Rattle.place.specs.Places.{Moves}
+use Rattle.c_read_words.specs.Words.{integerWords}
 use Rattle.wat.proofs.OneKind as kinds
 use Rattle.wat.proofs.Unique as unique
 use Rattle.wat.proofs.Utf8Laws as utf8
@@ -48,22 +50,25 @@ use Rattle.thallusweb.proofs.PassWords as words
 use Rattle.wat_values.proofs.Readable as readable
 use Rattle.wat_values.proofs.OneValue as values
 use Rattle.wat_values.proofs.OneReading as reading
+use Rattle.wat_values.proofs.IntegerLaws as integers
 use Rattle.read_second.proofs.PartLaws as part
 use Rattle.messages.proofs.OneMessage as message
 use Rattle.place.proofs.OnePlace as place
+use Rattle.c_read_words.proofs.TellLaws as tell
 
 -- ---- what passes can be read
 
 -- For callers from C: where `thallusweb_list` from 0 leaves 0 in out[0], each record of its list, decoded and handed to
 -- `thallusweb_read` with a buffer no shorter than the token, and that answer to `thallusweb_part`, gives the token's one value, and
--- the sign calls give its sign. Only a name that is empty or not UTF-8 is refused.
+-- the sign calls give its sign. Only a name that is empty or not UTF-8 is refused. The value calls of an integer give its word, or
+-- 40 where it is out of range.
 pub passes-words : {σ : Settings} {text list out l : List ℕ} {budget : ℕ} → ListedWords σ text 0 budget list out l
     → getD out 0 0 ≡ 0 → PassesWords σ text out l
 passes-words x e = words.passes-words x e
 
 -- A text that the listing carries from byte 0 to its end is divided in one way only, and each of its tokens, read there or
 -- alone with a buffer no shorter than itself, yields its one value, and its sign to the sign call. Only a name that is empty
--- or not UTF-8 is refused.
+-- or not UTF-8 is refused. The value call of an integer yields its word, or 40 where it is out of range.
 pub passes-readable : {σ : Settings} {text : List ℕ} {budget : ℕ} {list l : List ℕ} {r : Listed}
     → Listing σ text 0 budget list r l → r .stop ≡ stop.End → Passes σ text list r l
 passes-readable x e = readable.passes-readable x e
@@ -193,6 +198,14 @@ part-one x y = part.part-one x y
 pub reads-sign-one : {text : List ℕ} {token : Token} {a b : IntegerSign}
     → ReadsSign text token a → ReadsSign text token b → a ≡ b
 reads-sign-one x y = reading.reads-sign-one x y
+
+pub reads-word-one : {N : ℕ} {text : List ℕ} {token : Token} {a b : IntegerValue}
+    → ReadsWord N text token a → ReadsWord N text token b → a ≡ b
+reads-word-one x y = integers.reads-word-one x y
+
+-- For callers from C: its words tell the answer, so that 40 is no refusal's number.
+pub integer-words-tell : (a b : IntegerValue) → integerWords a ≡ integerWords b → a ≡ b
+integer-words-tell a b e = tell.integer-words-tell a b e
 
 pub reads-negative-one : {text : List ℕ} {token : Token} {a b : FloatSign}
     → ReadsNegative text token a → ReadsNegative text token b → a ≡ b

@@ -4,21 +4,22 @@ use mathlib.Core.Path.{_≡_, sym, subst}
 use mathlib.Core.List.{List}
 use lib.ListN.{getD}
 use Rattle.wat.specs.declared.{Checked.Checked, Found.Found, Parsed.Parsed, Listed.Listed, Token.Token, Refusal.Refusal}
-use Rattle.wat_values.specs.declared.{Reading.Reading, IntegerSign.IntegerSign, FloatSign.FloatSign}
+use Rattle.wat_values.specs.declared.{Reading.Reading, IntegerSign.IntegerSign, IntegerValue.IntegerValue, FloatSign.FloatSign}
 use Rattle.messages.specs.declared.Told.{Told}
 use Rattle.wat.specs.declared.Settings.{Settings}
 use Rattle.wat.specs.Utf8.{Says}
 use Rattle.wat.specs.Calls.{Parses, Annotates}
 use Rattle.wat.specs.Division.{Listing}
 use Rattle.wat_values.specs.Reading.{ReadsSign, ReadsNegative}
+use Rattle.wat_values.specs.Integers.{ReadsWord}
 use Rattle.messages.specs.ByNumber.{TellsBy}
 use Rattle.c_words.specs.Words.{checkedWords, refusedWords, foundWords, parsedWords, listedWords}
-use Rattle.c_read_words.specs.Words.{readingWords, integerSignWords, floatSignWords, messageWords}
+use Rattle.c_read_words.specs.Words.{readingWords, integerSignWords, integerWords, floatSignWords, messageWords}
 use Rattle.c_asked.specs.Asked.{settingsOf, Denotes, DenotesNone, Empty, Asks}
 use Rattle.read_call.specs.ByNumber.{ReadBy, Nowhere}
-use Rattle.read_call.proofs.NowhereLaws.{read-nowhere, sign-nowhere, negative-nowhere}
+use Rattle.read_call.proofs.NowhereLaws.{read-nowhere, sign-nowhere, word-nowhere, negative-nowhere}
 use Rattle.thallusweb.specs.Promises.{Utf8Checked, ParsedWords, AnnotatedWords, ListedWords, Nameless, ReadWords}
-use Rattle.thallusweb.specs.Promises.{IntegerSignWords, FloatSignWords, MessageWords}
+use Rattle.thallusweb.specs.Promises.{IntegerSignWords, IntegerWords, FloatSignWords, MessageWords}
 
 pub checked-words : {text w : List ℕ} (r : Checked) → Says text r → w ≡ checkedWords r → Utf8Checked text w
 checked-words {text} r s e = subst (Utf8Checked text) (sym e) (Utf8Checked.checked r s)
@@ -72,6 +73,13 @@ module _ {text w : List ℕ} {t : Token} where
       answer-words (IntegerSignWords text w) (integerSignWords s) z k (λ q. IntegerSignWords.read s q r)
       (λ n f. sign-nowhere n (λ (a : IntegerSign). IntegerSignWords text w (integerSignWords a)) r f)
       (λ q p x. IntegerSignWords.nameless x)
+
+  pub integer-words : {N : ℕ} {v : List ℕ} (a : IntegerValue) → Asks w t → ReadsWord N text t a → v ≡ integerWords a
+      → IntegerWords N text w v
+  integer-words {N} a k r z =
+      answer-words (IntegerWords N text w) (integerWords a) z k (λ q. IntegerWords.read a q r)
+      (λ n f. word-nowhere n (λ (b : IntegerValue). IntegerWords N text w (integerWords b)) r f)
+      (λ q p x. IntegerWords.nameless x)
 
   pub float-sign-words : {v : List ℕ} (s : FloatSign) → Asks w t → ReadsNegative text t s → v ≡ floatSignWords s
       → FloatSignWords text w v

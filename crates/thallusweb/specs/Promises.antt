@@ -4,15 +4,17 @@ use mathlib.Core.List.{List}
 use lib.ListN.{getD}
 use Rattle.wat.specs.declared.{Checked.Checked, Token.Token, Refusal.Refusal, Found.Found, Parsed.Parsed, Listed.Listed}
 use Rattle.wat_values.specs.declared.{Reading.Reading, IntegerSign.IntegerSign, FloatSign.FloatSign}
+use Rattle.wat_values.specs.declared.IntegerValue.{IntegerValue}
 use Rattle.messages.specs.declared.Told.{Told}
 use Rattle.wat.specs.declared.Settings.{Settings}
 use Rattle.wat.specs.Utf8.{Says}
 use Rattle.wat.specs.Calls.{Parses, Annotates}
 use Rattle.wat.specs.Division.{Listing}
 use Rattle.wat_values.specs.Reading.{ReadsSign, ReadsNegative}
+use Rattle.wat_values.specs.Integers.{ReadsWord}
 use Rattle.messages.specs.ByNumber.{TellsBy}
 use Rattle.c_words.specs.Words.{checkedWords, refusedWords, foundWords, parsedWords, listedWords}
-use Rattle.c_read_words.specs.Words.{readingWords, integerSignWords, floatSignWords, messageWords}
+use Rattle.c_read_words.specs.Words.{readingWords, integerSignWords, integerWords, floatSignWords, messageWords}
 use Rattle.c_asked.specs.Asked.{Denotes, DenotesNone}
 use Rattle.read_call.specs.ByNumber.{ReadBy, Nowhere}
 
@@ -45,6 +47,12 @@ pub data ReadWords (n : ℕ) (text w buffer : List ℕ) : List ℕ → List ℕ 
 pub data IntegerSignWords (text w : List ℕ) : List ℕ → Type 0 where
   read : {t : Token} (s : IntegerSign) → Denotes w t → ReadsSign text t s → IntegerSignWords text w (integerSignWords s)
   nameless : {r : Refusal} {p : ℕ} → Nameless text w r p → IntegerSignWords text w (refusedWords r p)
+
+-- an integer's value, as a word of N bits
+pub data IntegerWords (N : ℕ) (text w : List ℕ) : List ℕ → Type 0 where
+  read : {t : Token} (a : IntegerValue) → Denotes w t → ReadsWord N text t a
+      → IntegerWords N text w (integerWords a)
+  nameless : {r : Refusal} {p : ℕ} → Nameless text w r p → IntegerWords N text w (refusedWords r p)
 
 pub data FloatSignWords (text w : List ℕ) : List ℕ → Type 0 where
   read : {t : Token} (s : FloatSign) → Denotes w t → ReadsNegative text t s → FloatSignWords text w (floatSignWords s)

@@ -1,7 +1,8 @@
 -- What passes can be read, for callers from C: if `thallusweb_list` from 0 leaves 0 in out[0], each record of its list,
 -- decoded to three words and handed to `thallusweb_read` with a reader for its kind and a buffer no shorter than the
 -- token, and that answer to `thallusweb_part`, gives the value of the definitions; and to the sign calls its sign. The
--- one refusal left is a name that is empty or not UTF-8. `PassesWords` says it; it is proved as `passes-words`.
+-- one refusal left is a name that is empty or not UTF-8. The value calls of an integer give its word, or 40 where it is
+-- out of range. `PassesWords` says it; it is proved as `passes-words`.
 use Prim.Native.Nat.{ℕ, _≤_, _<_}
 use mathlib.Core.Path.{_≡_}
 use mathlib.Core.Logic.{_↔_}
@@ -11,6 +12,7 @@ use lib.ListN.{length, getD, take, drop}
 use Rattle.wat.specs.declared.{Sign.Sign, TokenKind.TokenKind, LexError.LexError, Settings.Settings}
 use Rattle.wat.specs.declared.TokenKind.the-variants as kind
 use Rattle.wat.specs.declared.{IntegerKind.IntegerKind, FloatKind.FloatKind, Refusal.the-variants.Lexical}
+use Rattle.wat_values.specs.declared.IntegerValue.{IntegerValue}
 use Rattle.wat.specs.Cases.{flag, kindNumber}
 use Rattle.wat.specs.Numbers.{negative}
 use Rattle.wat.specs.Division.{Piece, lengths, Divided}
@@ -19,12 +21,13 @@ use Rattle.wat_laws.specs.Records.{kindAt, tokenWords}
 use Rattle.wat_values.specs.Values.{Reader, Takes, Value, Reads}
 use Rattle.wat_values.specs.Names.{Misnamed}
 use Rattle.wat_values.specs.Reading.{found}
+use Rattle.wat_values.specs.Integers.{Worded}
 use Rattle.wat_values.specs.Readable.{bytesOf, filled, SignOf, HasSign}
 use Rattle.c_words.specs.Words.{refusedWords}
-use Rattle.c_read_words.specs.Words.{readingWords, signWord}
+use Rattle.c_read_words.specs.Words.{readingWords, signWord, integerWords}
 use Rattle.c_spots.specs.Spots.{PartWords}
 use Rattle.read_call.specs.ByNumber.{readers, nth}
-use Rattle.thallusweb.specs.Promises.{ReadWords, IntegerSignWords, FloatSignWords}
+use Rattle.thallusweb.specs.Promises.{ReadWords, IntegerSignWords, IntegerWords, FloatSignWords}
 
 -- the bytes of a token, by its words: its length of them from its offset on
 abbrev pub ownBytes : List ℕ → List ℕ → List ℕ
@@ -86,6 +89,16 @@ pub record SignReadWords (k : TokenKind) (text w : List ℕ) : Type 0 where
   pub one : (s : Sign) → SignOf k (ownBytes text w) s → s ≡ sign
   pub signs : SignsWords k text w sign
 
+-- ---- words of integers
+
+-- the value call for N bits of the token whose words are w answers the word of its bytes, or 40 where they have none
+pub record WordReadWords (N : ℕ) (text w : List ℕ) : Type 0 where
+  pub answer : IntegerValue
+  pub is : Worded N (ownBytes text w) answer
+  pub words : IntegerWords N text w (integerWords answer)
+  -- it leaves no other words
+  pub only : (a : List ℕ) → IntegerWords N text w a → a ≡ integerWords answer
+
 -- ---- texts
 
 -- a text passes, with the words `out` and the list l of the listing call
@@ -106,3 +119,6 @@ pub record PassesWords (σ : Settings) (text out l : List ℕ) : Type 0 where
   -- and of each that has a sign the sign is read
   pub signed : (i : ℕ) → i < getD out 5 0 → (k : TokenKind) → kindNumber k ≡ kindAt l i → HasSign k
       → SignReadWords k text (tokenWords l i)
+  -- and of each integer the word of each width is
+  pub valued : (i : ℕ) → i < getD out 5 0 → (k : IntegerKind) → kindNumber (kind.Integer k) ≡ kindAt l i
+      → (N : ℕ) → WordReadWords N text (tokenWords l i)

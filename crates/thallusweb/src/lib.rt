@@ -5,7 +5,7 @@ ghost use Rattle.c_words.specs.Words.{wordsVersion};
 ghost use Rattle.c_asked.specs.Asked.{settingsOf};
 ghost use Rattle.c_spots.specs.Spots.{PartWords, MovedWords};
 ghost use Rattle.thallusweb.specs.Promises.{Utf8Checked, ParsedWords, AnnotatedWords};
-ghost use Rattle.thallusweb.specs.Promises.{ListedWords, ReadWords, IntegerSignWords};
+ghost use Rattle.thallusweb.specs.Promises.{ListedWords, ReadWords, IntegerSignWords, IntegerWords};
 ghost use Rattle.thallusweb.specs.Promises.{FloatSignWords, MessageWords};
 pub use lex_calls::annotation;
 pub use lex_calls::parse;
@@ -26,6 +26,8 @@ pub use read_text::annotation as annotation_name;
 pub use read_text::id;
 pub use read_text::src;
 pub use read_text::string;
+pub use read_value::integer_32;
+pub use read_value::integer_64;
 pub use utf8_check::check as check_utf8;
 
 // The number of the words and constants of include/thallusweb.h, which is its THALLUSWEB_VERSION.
@@ -121,6 +123,22 @@ pub extern "C" fn thallusweb_integer_sign(text: &[u8], token: &[u64; 3], out: &m
         text,
         c_asked::token_of(*token),
     ));
+}
+
+// An integer's value: its word of 32 bits.
+#[no_mangle]
+pub extern "C" fn thallusweb_integer_32(text: &[u8], token: &[u64; 3], out: &mut [u64; 5])
+    ensures { λ _. ⌜ IntegerWords 32 (now (text .entry)) (now (token .entry)) (now (out .exit)) ⌝ }
+{
+    *out = c_read_words::integer_words(read_value::integer_32(text, c_asked::token_of(*token)));
+}
+
+// An integer's value: its word of 64 bits.
+#[no_mangle]
+pub extern "C" fn thallusweb_integer_64(text: &[u8], token: &[u64; 3], out: &mut [u64; 5])
+    ensures { λ _. ⌜ IntegerWords 64 (now (text .entry)) (now (token .entry)) (now (out .exit)) ⌝ }
+{
+    *out = c_read_words::integer_words(read_value::integer_64(text, c_asked::token_of(*token)));
 }
 
 // Whether a float is negative.
