@@ -34,13 +34,15 @@ static void ask(void) {
     }
     thallusweb_integer_sign(text, most, token, out);
     thallusweb_float_sign(text, most, token, out);
-    for (uint64_t number = 0; number < 40; number++) thallusweb_message(number, 0x202e, 0x10ffff, buffer, 64, out);
+    thallusweb_integer_32(text, most, token, out);
+    thallusweb_integer_64(text, most, token, out);
+    for (uint64_t number = 0; number <= 40; number++) thallusweb_message(number, 0x202e, 0x10ffff, buffer, 64, out);
     thallusweb_message(19, 0xffffffff, 0, buffer, 64, out);
     thallusweb_move(place, text, most);
 }
 
 static void run(void) {
-    const char *pieces[] = {"(;", "\"", " ", ";;a", "0x1_", "1", "$\"\\u{41}", "\\", "\"\\ff", "(;;)", "@", "a \"\\00\" "};
+    const char *pieces[] = {"(;", "\"", " ", ";;a", "0x1_", "1", "0", "$\"\\u{41}", "\\", "\"\\ff", "(;;)", "@", "a \"\\00\" "};
     for (size_t i = 0; i < sizeof pieces / sizeof *pieces; i++) {
         repeat(pieces[i]);
         ask();

@@ -80,6 +80,15 @@ fn main() {
     ] {
         one_read(rounds, text, reader);
     }
+    println!("\nan integer's value, as an i64        ratio   ns, ours and the Rust's");
+    for (name, text) in [
+        ("5 digits", "12345".to_string()),
+        ("10 digits", "1234567890".to_string()),
+        ("20 digits", "12345678901234567890".to_string()),
+        ("1,000 zeros and a 1", format!("{}1", "0".repeat(1_000))),
+    ] {
+        one_value(rounds, name, &text);
+    }
     println!(
         "\none call for each token or error     ratio   MB/s, ours and the Rust's; 4 MiB beside 1"
     );
@@ -281,31 +290,68 @@ fn read_by_the_original(token: &lexer::Token, text: &str) -> bool {
     true
 }
 
-/// The time of one read of a token that is the whole of a short text.
-fn one_read(rounds: u32, text: &str, reader: Reader) {
+/// The token that is the whole of a short text, ours and the original's.
+fn one_token(text: &str) -> (Token, lexer::Token) {
+    const ONE: &str = "the text is a token";
+    let token = Ours::new(text).parse(&mut 0).expect(ONE).expect(ONE);
+    let original = Lexer::new(text).parse(&mut 0).expect(ONE).expect(ONE);
+    (token, original)
+}
+
+/// The times of two ways to do the same with a token, many times over.
+fn beside(rounds: u32, name: &str, ours: impl Fn(), theirs: impl Fn()) {
     const READS: u32 = 100_000;
-    let token = Ours::new(text)
-        .parse(&mut 0)
-        .expect("a token")
-        .expect("a token");
-    let original = Lexer::new(text)
-        .parse(&mut 0)
-        .expect("a token")
-        .expect("a token");
     let [ours, theirs] = best(
         rounds,
-        [
-            &mut || (0..READS).for_each(|_| _ = black_box(token.read(black_box(text), reader))),
-            &mut || (0..READS).for_each(|_| _ = read_by_the_original(&original, black_box(text))),
-        ],
+        [&mut || (0..READS).for_each(|_| ours()), &mut || {
+            (0..READS).for_each(|_| theirs())
+        }],
     );
     println!(
-        "{:36} {:>5.2} {:>10} {:>6}",
-        format!("one read, {text}"),
+        "{name:36} {:>5.2} {:>10} {:>6}",
         ratio(ours, theirs),
         (ours / READS).as_nanos(),
         (theirs / READS).as_nanos()
     );
+}
+
+/// The time of one read of a token.
+fn one_read(rounds: u32, text: &str, reader: Reader) {
+    let (token, original) = one_token(text);
+    beside(
+        rounds,
+        &format!("one read, {text}"),
+        || _ = black_box(token.read(black_box(text), reader)),
+        || _ = read_by_the_original(&original, black_box(text)),
+    );
+}
+
+/// The time of an integer's value.
+fn one_value(rounds: u32, name: &str, text: &str) {
+    let (token, original) = one_token(text);
+    assert_eq!(
+        token.i64(text).ok(),
+        value_by_the_original(&original, text),
+        "{name}"
+    );
+    beside(
+        rounds,
+        name,
+        || _ = black_box(token.i64(black_box(text))),
+        || _ = black_box(value_by_the_original(&original, black_box(text))),
+    );
+}
+
+/// As the original's parser reads it (docs/src/src/token.rs, `integers!`).
+fn value_by_the_original(token: &lexer::Token, text: &str) -> Option<i64> {
+    let lexer::TokenKind::Integer(kind) = token.kind else {
+        return None;
+    };
+    let integer = token.integer(text, kind);
+    let (s, base) = integer.val();
+    i64::from_str_radix(s, base)
+        .or_else(|_| u64::from_str_radix(s, base).map(|i| i as i64))
+        .ok()
 }
 
 fn parsed(text: &str) -> usize {

@@ -1,5 +1,5 @@
-/* Lists the tokens of a file, each with its line, column, kind and bytes, and what the strings and names among them
- * stand for. */
+/* Lists the tokens of a file, each with its line, column, kind and bytes, what the strings and names among them stand
+ * for, and the values of the integers. */
 #include "thallusweb.h"
 
 #include <stdio.h>
@@ -72,6 +72,17 @@ static void print_value(const uint8_t *own, uint64_t reader, uint64_t kind, uint
     free(buffer);
 }
 
+/* An integer's value as an int64_t, for the price of the token too. */
+static void print_integer(const uint8_t *own, uint64_t kind, uint64_t len) {
+    uint64_t token[THALLUSWEB_TOKEN_WORDS] = {kind, 0, len}, answer[THALLUSWEB_INTEGER_WORDS];
+    thallusweb_integer_64(own, len, token, answer);
+    if (answer[0] == THALLUSWEB_REFUSED) {
+        printf(" refused by %llu", (unsigned long long)answer[1]);
+    } else {
+        printf(" = %lld", (long long)answer[1]);
+    }
+}
+
 /* The tokens of a UTF-8 text from `at` on, at most CHUNK of them, as records in `list`; the words as thallusweb_list
  * leaves them for the whole text, but for the position. Each call checks the text that it is given: so it is given a
  * window, which grows until a token ends inside it, and all takes as long as the text is. That the window's answers are
@@ -137,6 +148,8 @@ int main(int argc, char **argv) {
                 fwrite(text + at, 1, token_len, stdout);
                 if (reader_for(kind) != THALLUSWEB_SRC) {
                     print_value(text + at, reader_for(kind), kind, token_len);
+                } else if ((kind & THALLUSWEB_KIND_MASK) == THALLUSWEB_KIND_INTEGER) {
+                    print_integer(text + at, kind, token_len);
                 }
                 putchar('\n');
             }

@@ -1,4 +1,4 @@
-// The values of the strings and names in a file, with lines and columns, by the installed library: go run values.go FILE
+// The values of the strings, names and integers in a file, with lines and columns, by the installed library: go run values.go FILE
 package main
 
 // #cgo pkg-config: thallusweb
@@ -19,12 +19,20 @@ func room(n int) []byte               { return make([]byte, n, n+1) }
 func pointer(b []byte) *C.uint8_t     { return (*C.uint8_t)(unsafe.Pointer(unsafe.SliceData(b))) }
 func length(b []byte) C.size_t        { return C.size_t(len(b)) }
 func move(p *[2]C.uint32_t, b []byte) { C.thallusweb_move(&p[0], pointer(b), length(b)) }
+func isInteger(kind uint16) bool      { return kind&C.THALLUSWEB_KIND_MASK == C.THALLUSWEB_KIND_INTEGER }
 
-// value is what a token stands for, given just its own bytes; nothing if its name is refused.
+// value is what a token stands for, given just its own bytes, an integer as an int64; nothing if it is refused.
 func value(own []byte, kind uint16) []byte {
 	token, buffer := [3]C.uint64_t{C.uint64_t(kind), 0, C.uint64_t(len(own))}, room(len(own))
 	var answer [5]C.uint64_t
 	var part [3]C.uint64_t
+	if isInteger(kind) {
+		C.thallusweb_integer_64(pointer(own), length(own), &token[0], &answer[0])
+		if answer[0] != 1 {
+			return nil
+		}
+		return []byte(fmt.Sprint(int64(answer[1])))
+	}
 	C.thallusweb_read(pointer(own), length(own), readers[kind], &token[0], pointer(buffer), length(buffer), &answer[0])
 	C.thallusweb_part(pointer(own), length(own), pointer(buffer), length(buffer), &answer[0], &part[0])
 	if part[0] == 3 {
@@ -49,7 +57,7 @@ func main() {
 	for ; listed[5] > 0; listed[5]-- {
 		own := text[at : at+int(binary.LittleEndian.Uint32(list))]
 		kind := binary.LittleEndian.Uint16(list[4:])
-		if readers[kind] != 0 {
+		if readers[kind] != 0 || isInteger(kind) {
 			fmt.Printf("%d:%d %s\n", place[0], place[1], value(own, kind))
 		}
 		move(&place, own)

@@ -6,10 +6,12 @@ import collections
 import dataclasses
 import pathlib
 import subprocess
+from collections.abc import Callable
 
 from . import computed
 from .readers import reader_row
 from .terms import ERRORS, KINDS, READERS
+from .words import WORDED, word_rows
 
 PROJECT = pathlib.Path(__file__).resolve().parent.parent.parent
 
@@ -50,6 +52,14 @@ use Rattle.wat_values.specs.Values.{Reader, Takes, part, copy, absent, refused,
 use Rattle.wat_values.specs.Reading.{found, needs}
 use Rattle.evidence.specs.Evidence as evidence
 """
+WORD_IMPORTS = """\
+use lib.Dec.{lit<, lit≤}
+use Rattle.wat_values.specs.declared.IntegerValue.the-variants as value
+use Rattle.wat.specs.Numbers.{Signed}
+use Rattle.wat.specs.Strings.{Hex}
+use Rattle.wat_values.specs.Integers.{radix, Num, Word, IntegerWord, Worded, outOfRange}
+use Rattle.evidence.specs.Evidence as evidence
+"""
 
 # the functions that the prover opens, by module: those that rows name, and what they compute with
 LEX_OPENED = {
@@ -85,6 +95,7 @@ READER_OPENED = {
     "wat.specs.Strings": "escapes",
     "wat_values.specs.Values": "copyOrPart copied bare",
 }
+WORD_OPENED = {"wat_values.specs.IntegerModel": "digitValue amount"}
 
 
 @dataclasses.dataclass
@@ -103,8 +114,8 @@ class Sort:
     answers: list
     columns: list = dataclasses.field(default_factory=lambda: [""])
     needs: str = "wat"
-    # rows that are none of the oracle's
-    more: list = dataclasses.field(default_factory=list)
+    # rows that are none of the oracle's: so many, by a seed
+    more: Callable = lambda count, seed: []
     # whether rows are equations, which the prover computes so many at a time; else each is a statement with its proof
     computed: bool = True
     per_table: int = 100
@@ -118,7 +129,7 @@ class Sort:
             command += ["--rows", str(count), "--seed", str(seed)]
             run = subprocess.run(command, cwd=PROJECT / "tests/oracle", check=True, stdout=subprocess.PIPE, text=True)
             rows += map(of_line, run.stdout.splitlines())
-        return rows + self.more
+        return rows + self.more(count, seed)
 
     def table(self, index, rows):
         """The model's answers, the original's, and that computing makes them the same; or a statement and its proof."""
@@ -174,7 +185,7 @@ SORTS = [
         imports=NUMBER_IMPORTS,
         opened={},
         answers=["kinds", "errors", "refusals"],
-        more=computed.refusal_rows(),
+        more=lambda count, seed: computed.refusal_rows(),
         sides="ℕ × List ℕ",
     ),
     Sort(
@@ -220,6 +231,21 @@ SORTS = [
         answers=[name for name, _ in READERS],
         columns=["part", "copy", "absent", "22", "23", "24", "31"],
         needs="wat wat_values evidence",
+        computed=False,
+        per_table=1,
+    ),
+    Sort(
+        name="words",
+        option="--word-rows",
+        rows=2_000,
+        help="integer literals whose word of some bits is asked",
+        of_line={},
+        imports=WORD_IMPORTS,
+        opened=WORD_OPENED,
+        answers=WORDED,
+        columns=["word", "0x word", "40", "0x 40"],
+        needs="wat wat_values evidence",
+        more=word_rows,
         computed=False,
         per_table=1,
     ),

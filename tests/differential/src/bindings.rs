@@ -2,7 +2,8 @@
 //! docs/RULES.md adds to the Rust is expected by its rule, as `compare.rs` and `reading.rs` expect it of the C calls.
 
 use crate::compare::{self, CANARY, MARGIN, shown};
-use crate::ours::{self as c, Found, Listed, Reading, Refused};
+use crate::integers;
+use crate::ours::{self as c, Found, Listed, Reading, Refused, Words};
 use crate::reading;
 use oracle::lexer as wast;
 use oracle::listing::RECORD;
@@ -59,6 +60,7 @@ fn refused(error: &Error) -> Refused {
         Refusal::Lex(LexError::EmptyAnnotation) => (24, [0, 0]),
         Refusal::NotThatToken => (30, [0, 0]),
         Refusal::NotThatKind => (31, [0, 0]),
+        Refusal::OutOfRange => (40, [0, 0]),
         ref other => panic!("bindings: {other:?} from a text"),
     };
     assert_eq!(error.refusal().number(), number, "bindings, the number of {error:?}");
@@ -96,6 +98,24 @@ fn lexers(text: &str, flag: bool) -> [ours::Lexer<'_>; 3] {
     let mut turned = built;
     turned.allow_confusing_unicode(!flag).allow_confusing_unicode(flag);
     [set, built, turned]
+}
+
+/// The value of a token in both widths, unsigned and signed: the words that the C calls are held to. Answers how many answers there were.
+pub fn values(text: &str, token: Words) -> u64 {
+    let [word_32, word_64] = integers::expected(text.as_bytes(), token);
+    let [kind, offset, len] = token;
+    let kind = ours::TokenKind::from_number(kind).expect("a kind");
+    let of = ours::Token { kind, offset: offset as usize, len: len as u32 };
+    let asked = || format!("bindings, the value of {token:?} in {}", shown(text.as_bytes()));
+    let word = |value: Result<i128, Error>, bits: u32| match value {
+        Ok(value) => Ok(value.rem_euclid(1 << bits) as u64),
+        Err(error) => Err(refused(&error)),
+    };
+    assert_eq!(of.u32(text).map(u64::from).map_err(|error| refused(&error)), word_32, "{}", asked());
+    assert_eq!(of.u64(text).map_err(|error| refused(&error)), word_64, "{}", asked());
+    assert_eq!(word(of.i32(text).map(i128::from), 32), word_32, "{}", asked());
+    assert_eq!(word(of.i64(text).map(i128::from), 64), word_64, "{}", asked());
+    4
 }
 
 impl Asked<'_> {
@@ -136,13 +156,16 @@ impl Asked<'_> {
         }
     }
 
-    /// Every reader of a token that is there, and of the same bytes under another kind.
+    /// Every reader of a token that is there, and of the same bytes under another kind, and the value.
     fn readings(&self, token: ours::Token) -> u64 {
         let text = self.text.as_bytes();
         let other = if token.kind == ours::TokenKind::String { ours::TokenKind::Id } else { ours::TokenKind::String };
+        let mut count = 0;
         for token in [token, ours::Token { kind: other, ..token }] {
+            let words = [token.kind.number(), token.offset as u64, token.len.into()];
+            count += values(self.text, words);
             for (number, reader) in READERS.into_iter().enumerate() {
-                let words = [token.kind.number(), token.offset as u64, token.len.into()];
+                count += 1;
                 let mut buffer = vec![CANARY; token.len as usize];
                 let expected = reading::expected_reading(text, number as u64, words, &mut buffer);
                 let answer = match token.read(self.text, reader) {
@@ -160,7 +183,7 @@ impl Asked<'_> {
                 assert_eq!(answer, expected, "{} {token:?}, {reader:?}", self.of("the reading"));
             }
         }
-        2 * READERS.len() as u64
+        count
     }
 
     /// `iter` from a start on, item by item, with the values of its tokens.

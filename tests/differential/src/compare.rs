@@ -24,6 +24,12 @@ pub struct Counts {
     pub items: u64,
     /// how often each refusal was the answer for one token or of a reader
     pub refusals: BTreeMap<u64, u64>,
+    /// literals of integers that were asked for their own sake
+    pub literals: u64,
+    /// values of integers
+    pub values: u64,
+    /// how often each refusal was the answer for one
+    pub value_refusals: BTreeMap<u64, u64>,
 }
 
 /// The bytes around a lent list, and what it holds before.
@@ -107,8 +113,22 @@ pub fn expected_listing(bytes: &[u8], flag: bool, start: usize, budget: usize, l
 
 impl Counts {
     pub fn add(&mut self, other: Counts) {
-        let Counts { texts, tokens, annotations, listings, readings, parts, signs, messages, moves, items, refusals } =
-            other;
+        let Counts {
+            texts,
+            tokens,
+            annotations,
+            listings,
+            readings,
+            parts,
+            signs,
+            messages,
+            moves,
+            items,
+            refusals,
+            literals,
+            values,
+            value_refusals,
+        } = other;
         self.texts += texts;
         self.tokens += tokens;
         self.annotations += annotations;
@@ -119,8 +139,12 @@ impl Counts {
         self.messages += messages;
         self.moves += moves;
         self.items += items;
-        for (number, count) in refusals {
-            *self.refusals.entry(number).or_default() += count;
+        self.literals += literals;
+        self.values += values;
+        for (sum, more) in [(&mut self.refusals, refusals), (&mut self.value_refusals, value_refusals)] {
+            for (number, count) in more {
+                *sum.entry(number).or_default() += count;
+            }
         }
     }
 

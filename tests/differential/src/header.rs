@@ -111,6 +111,9 @@ pub fn holds() {
     for (text, sign) in [("1", c::SIGN_NONE), ("+1", c::SIGN_PLUS), ("-1", c::SIGN_MINUS)] {
         assert_eq!(ours::integer_sign(text.as_bytes(), token(text)), Ok(Some(sign)), "the header's sign of {text:?}");
     }
+    let out_of_range = Err(Refused { number: c::OUT_OF_RANGE, values: [0, 0], place: 0 });
+    assert_eq!(ours::integer_32(b"4294967296", token("4294967296")), out_of_range, "the header's refusal of a value");
+    assert_eq!(ours::message(c::OUT_OF_RANGE, [0, 0], &mut []), Err(c::NO_MESSAGE));
     // two records, and a byte less
     for (room, stop) in [(2 * c::RECORD, Stop::End), (2 * c::RECORD - 1, Stop::Full)] {
         assert_eq!(ours::list(b"()", 0, 0, 9, &mut vec![0; room as usize]).stop, stop, "a list of {room} bytes");

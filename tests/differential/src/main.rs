@@ -3,11 +3,12 @@
 mod bindings;
 mod compare;
 mod header;
+mod integers;
 mod ours;
 mod reading;
 
 use compare::Counts;
-use oracle::texts::Texts;
+use oracle::texts::{Texts, every};
 use std::process::ExitCode;
 use std::sync::atomic::{AtomicU64, Ordering};
 use std::thread;
@@ -18,8 +19,10 @@ differential: Thallusweb against the Rust original
 
   differential [--bytes N] [--symbols N] [--random N] [--seed S]
       --bytes N     every byte string of up to N bytes (default 2)
-      --symbols N   every text of up to N symbols of a telling alphabet (default 4)
-      --random N    so many random texts, whole, cut and damaged, and random byte strings (default 100000)
+      --symbols N   every text of up to N symbols of a telling alphabet, and every literal of an integer of up to N
+                    parts (default 4)
+      --random N    so many random texts, whole, cut and damaged, random byte strings, and literals of integers
+                    (default 100000)
       --seed S      of the random texts (default 1)
 ";
 
@@ -60,19 +63,6 @@ fn options() -> Option<Options> {
         }
     }
     Some(options)
-}
-
-/// Every sequence of up to `most` of the symbols, joined.
-fn every(symbols: &[&[u8]], most: usize, text: &mut Vec<u8>, each: &mut impl FnMut(&[u8])) {
-    each(text);
-    if most == 0 {
-        return;
-    }
-    for symbol in symbols {
-        text.extend_from_slice(symbol);
-        every(symbols, most - 1, text, each);
-        text.truncate(text.len() - symbol.len());
-    }
 }
 
 /// A text over the limit, and the longest text: refusal 1, and a listing to the end.
@@ -128,6 +118,7 @@ fn share(options: &Options, which: u64) -> Counts {
             counts.text(&chance.long_bytes(), &mut chance);
         }
     }
+    counts.literals((which, SHARES), options.symbols, options.random, options.seed);
     counts
 }
 
@@ -140,6 +131,7 @@ fn main() -> ExitCode {
     let mut counts = Counts::default();
     header::holds();
     limits(&mut counts);
+    integers::limits(&mut counts);
     bindings::limits();
     let next = AtomicU64::new(0);
     let work = || {
@@ -159,15 +151,17 @@ fn main() -> ExitCode {
             counts.add(worker.join().expect("a thread that met no difference"));
         }
     });
-    let Counts { texts, tokens, annotations, listings, readings, parts, signs, messages, moves, items, refusals } =
-        counts;
+    let Counts { texts, tokens, annotations, listings, readings, parts, signs, messages, moves, .. } = counts;
     println!(
         "{texts} texts: {tokens} tokens, {annotations} annotations, {listings} listings, {readings} readings, {parts} parts, {signs} signs, \
          {messages} messages and {moves} moves of the place counter agree; {:.0} s",
         began.elapsed().as_secs_f64()
     );
-    println!("{items} answers of the Rust bindings agree");
-    let seen = refusals.iter().map(|(number, count)| format!("{number}: {count}"));
-    println!("refusals of tokens and readers by number: {}", seen.collect::<Vec<_>>().join(", "));
+    println!("{} values of integers agree, of these tokens and of {} literals", counts.values, counts.literals);
+    println!("{} answers of the Rust bindings agree", counts.items);
+    for (what, refusals) in [("tokens and readers", counts.refusals), ("values of integers", counts.value_refusals)] {
+        let seen = refusals.iter().map(|(number, count)| format!("{number}: {count}"));
+        println!("refusals of {what} by number: {}", seen.collect::<Vec<_>>().join(", "));
+    }
     ExitCode::SUCCESS
 }

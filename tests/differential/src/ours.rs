@@ -164,6 +164,23 @@ pub fn float_sign(text: &[u8], token: Words) -> Result<Option<u64>, Refused> {
     sign(words(|out| unsafe { c::thallusweb_float_sign(text.as_ptr(), text.len(), &token, out) }))
 }
 
+/// A word of 32 or 64 bits.
+fn value(answer: [u64; c::INTEGER_WORDS as usize]) -> Result<u64, Refused> {
+    match answer {
+        [c::TOLD, word, 0, 0, 0] => Ok(word),
+        [c::REFUSED, number, place, first, second] => Err(Refused { number, values: [first, second], place }),
+        other => panic!("no value has the words {other:?}"),
+    }
+}
+
+pub fn integer_32(text: &[u8], token: Words) -> Result<u64, Refused> {
+    value(words(|out| unsafe { c::thallusweb_integer_32(text.as_ptr(), text.len(), &token, out) }))
+}
+
+pub fn integer_64(text: &[u8], token: Words) -> Result<u64, Refused> {
+    value(words(|out| unsafe { c::thallusweb_integer_64(text.as_ptr(), text.len(), &token, out) }))
+}
+
 /// The length of the message, or the number of a refusal.
 pub fn message(number: u64, values: [u64; 2], buffer: &mut [u8]) -> Result<u64, u64> {
     let call =

@@ -9,12 +9,12 @@ use oracle::texts::Texts;
 use oracle::values::{NO_READER, Value};
 use oracle::{Answer, Oracle, numbers};
 
-fn nowhere(number: u64) -> Refused {
+pub fn nowhere(number: u64) -> Refused {
     Refused { number, values: [0, 0], place: 0 }
 }
 
 /// The token that the words name, if lexing with the flag on gives it: 1 to 4, then 30.
-fn there<'a>(bytes: &'a [u8], [kind, offset, len]: Words) -> Result<(Oracle<'a>, Token), Refused> {
+pub fn there<'a>(bytes: &'a [u8], [kind, offset, len]: Words) -> Result<(Oracle<'a>, Token), Refused> {
     let text = compare::turned(bytes, offset as usize)?;
     let oracle = Oracle::new(text, true);
     match oracle.parse(offset as usize).0 {
@@ -89,7 +89,9 @@ impl Counts {
         });
         assert_eq!(ours::float_sign(bytes, token), expected, "float's sign of {token:?} in {}", shown(bytes));
         self.signs += 2;
+        self.values(bytes, token);
         if let Some(own) = own {
+            self.values(own, [kind, 0, len]);
             let near = [u32::MAX - chance.below(4) as u32, u32::MAX - chance.below(12) as u32];
             for place in [[1, 1], near] {
                 assert_eq!(ours::move_over(place, own), expected_move(place, own), "{place:?} over {}", shown(own));
@@ -172,6 +174,7 @@ impl Counts {
         let token = [kind, wide(chance, bytes.len() + 2), wide(chance, bytes.len() + 2)];
         let reader = wide(chance, 12);
         self.reading(bytes, reader, token, chance.below(9));
+        self.values(bytes, token);
         let buffer = vec![CANARY; chance.below(9)];
         let answer = [wide(chance, 5), wide(chance, 9), wide(chance, 9), wide(chance, 9), wide(chance, 9)];
         self.part(bytes, &buffer, answer);

@@ -1,7 +1,8 @@
 //! What the Rust original says of a text, in the numbers of docs/RULES.md.
 //!
-//! [`lexer`] is docs/src/src/lexer.rs, unchanged; [`Error`] and [`token`] stand in for the rest of its crate. [`Oracle`]
-//! asks it for one token, an annotation or a listing, and for what its readers make of a token.
+//! [`lexer`], [`parser`] and [`token`] are those of docs/src/src, unchanged; [`Error`] and [`annotation`] stand in for the
+//! rest of their crate. [`Oracle`] asks the lexer for one token, an annotation or a listing, and for what its readers make
+//! of a token; [`integers`] asks the parser for an integer's value.
 //!
 //! A position must stand between two characters of the text, or at its end: elsewhere the original panics, where
 //! rule 1 refuses by 3 and 4.
@@ -10,7 +11,18 @@
 #[allow(clippy::all)]
 #[path = "../../../docs/src/src/lexer.rs"]
 pub mod lexer;
+#[rustfmt::skip]
+#[allow(clippy::all, unexpected_cfgs)]
+#[path = "../../../docs/src/src/parser.rs"]
+pub mod parser;
+#[rustfmt::skip]
+#[allow(clippy::all, unexpected_cfgs)]
+#[path = "../../../docs/src/src/token.rs"]
+pub mod token;
+
+pub mod integers;
 pub mod listing;
+pub mod literals;
 pub mod numbers;
 pub mod places;
 pub mod readers;
@@ -20,30 +32,63 @@ pub mod values;
 use lexer::{LexError, Lexer};
 use readers::Token;
 
-/// What the lexer uses of the original's `token` module.
-pub mod token {
-    /// A place in a text.
-    pub struct Span {
-        pub(crate) offset: usize,
+/// What the original's `token` module names of its `annotation` module. No test asks for it.
+pub mod annotation {
+    use crate::parser::{Cursor, Parse, Parser, Peek, Result};
+
+    #[expect(non_camel_case_types)]
+    pub struct name;
+
+    impl Parse<'_> for name {
+        fn parse(parser: Parser<'_>) -> Result<name> {
+            Err(parser.error("no annotation is read here"))
+        }
+    }
+
+    impl Peek for name {
+        fn peek(_: Cursor<'_>) -> Result<bool> {
+            Ok(false)
+        }
+
+        fn display() -> &'static str {
+            "@name"
+        }
     }
 }
 
-/// The original's error, as far as the lexer makes one.
+/// The original's error, as far as lexer and parser make one.
 #[derive(Debug)]
 pub struct Error {
     place: usize,
-    kind: LexError,
+    kind: ErrorKind,
+}
+
+#[derive(Debug)]
+enum ErrorKind {
+    Lex(LexError),
+    Parse(String),
 }
 
 impl Error {
     fn lex(span: token::Span, _content: &str, kind: LexError) -> Error {
-        Error { place: span.offset, kind }
+        Error { place: span.offset, kind: ErrorKind::Lex(kind) }
+    }
+
+    fn parse(span: token::Span, _content: &str, message: String) -> Error {
+        Error::new(span, message)
+    }
+
+    fn new(span: token::Span, message: String) -> Error {
+        Error { place: span.offset, kind: ErrorKind::Parse(message) }
     }
 }
 
 impl std::fmt::Display for Error {
     fn fmt(&self, f: &mut std::fmt::Formatter<'_>) -> std::fmt::Result {
-        self.kind.fmt(f)
+        match &self.kind {
+            ErrorKind::Lex(kind) => kind.fmt(f),
+            ErrorKind::Parse(message) => f.write_str(message),
+        }
     }
 }
 
@@ -57,7 +102,8 @@ pub struct Fault {
 
 impl From<Error> for Fault {
     fn from(error: Error) -> Fault {
-        let (number, data) = numbers::of_error(&error.kind);
+        let ErrorKind::Lex(kind) = &error.kind else { panic!("no error of the lexer: {error}") };
+        let (number, data) = numbers::of_error(kind);
         Fault { number, data, place: error.place }
     }
 }

@@ -48,6 +48,19 @@ const TRAILS: [u8; 8] = [0x7f, 0x80, 0x8f, 0x90, 0x9f, 0xa0, 0xbf, 0xc0];
 /// Numbers between which some rule or some number of bytes draws a line.
 const LIMITS: [u32; 12] = [0, 0x10, 0x20, 0x27, 0x5c, 0x7f, 0x100, 0xd800, 0xe000, 0x1_0000, 0x11_0000, 0x100_0000];
 
+/// Every sequence of up to `most` of the symbols, joined, behind what the text holds.
+pub fn every(symbols: &[&[u8]], most: usize, text: &mut Vec<u8>, each: &mut impl FnMut(&[u8])) {
+    each(text);
+    if most == 0 {
+        return;
+    }
+    for symbol in symbols {
+        text.extend_from_slice(symbol);
+        every(symbols, most - 1, text, each);
+        text.truncate(text.len() - symbol.len());
+    }
+}
+
 /// A generator of texts.
 pub struct Texts {
     state: u64,
@@ -137,6 +150,11 @@ impl Texts {
             1 => self.next() as u32 >> self.below(32),
             _ => self.pick(&LIMITS).wrapping_add(self.below(4) as u32).wrapping_sub(2),
         }
+    }
+
+    /// Any number of 128 bits.
+    pub fn wide(&mut self) -> u128 {
+        u128::from(self.next()) << 64 | u128::from(self.next())
     }
 
     /// One of the nine confusing characters, or a neighbour.
