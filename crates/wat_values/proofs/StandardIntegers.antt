@@ -40,3 +40,11 @@ signed-plus {M} {n} (SignedAs.low h) = Word.plus {n = n} (omega (arith, half M))
 pub signed-minus : {M n v : ℕ} → SignedAs M v true n → Word (suc M) Minus n v
 signed-minus {M} {n} {v} (SignedAs.high h k e) =
     Word.minus {n = n} {v = v} (omega arith) (omega (arith, half M, pow-suc 2 M)) (omega arith)
+
+-- 0 is -0
+pub signed-minus-zero : {M v : ℕ} → SignedAs M v false 0 → Word (suc M) Minus 0 v
+signed-minus-zero (SignedAs.low h) = Word.minus-zero
+
+-- an sN without a sign is the uN
+pub signed-unsigned : {M n v : ℕ} → SignedAs M v false n → Word (suc M) Unsigned n v
+signed-unsigned {M} {n} (SignedAs.low h) = Word.unsigned {n = n} (omega (arith, pow-suc 2 M))
