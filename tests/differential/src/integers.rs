@@ -85,7 +85,7 @@ impl Counts {
     }
 }
 
-/// A text, a token's words, and the number by which both calls refuse it, where the next one would hold too.
+/// A text, a token's words, and the number by which both calls refuse it, where a later one would hold too.
 const ORDER: [(&[u8], Words, u64); 8] = [
     (b"a\xff", [c::KIND_INTEGER, 9, 1], c::NOT_UTF8),
     (b"\xc3\xa9\xff", [c::KIND_INTEGER, 1, 1], c::NOT_UTF8),
