@@ -14,9 +14,9 @@ import (
 
 var readers = map[uint16]C.uint64_t{6: C.THALLUSWEB_STRING, 7: C.THALLUSWEB_ID, 9: C.THALLUSWEB_ANNOTATION}
 
-// room has so many bytes and a pointer that is not nil, even for none.
+// room has so many bytes and a place for one more, so that it has a pointer even for none.
 func room(n int) []byte               { return make([]byte, n, n+1) }
-func pointer(b []byte) *C.uint8_t     { return (*C.uint8_t)(unsafe.Pointer(unsafe.SliceData(b))) }
+func pointer(b []byte) *C.uint8_t     { return (*C.uint8_t)(unsafe.Pointer(&b[:1][0])) }
 func length(b []byte) C.size_t        { return C.size_t(len(b)) }
 func move(p *[2]C.uint32_t, b []byte) { C.thallusweb_move(&p[0], pointer(b), length(b)) }
 func isInteger(kind uint16) bool      { return kind&C.THALLUSWEB_KIND_MASK == C.THALLUSWEB_KIND_INTEGER }
