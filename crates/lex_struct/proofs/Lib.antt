@@ -1,1 +1,2 @@
 mod StructLaws
+mod LookLaws

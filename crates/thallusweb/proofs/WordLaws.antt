@@ -25,24 +25,26 @@ pub checked-words : {text w : List ℕ} (r : Checked) → Says text r → w ≡ 
 checked-words {text} r s e = subst (Utf8Checked text) (sym e) (Utf8Checked.checked r s)
 
 -- the lexer's calls, by the settings that a word says
-module _ (word : ℕ) {σ : Settings} (is : σ ≡ settingsOf word) {text : List ℕ} where
-  pub parsed-words : {w : List ℕ} {pos : ℕ} {r : Parsed} → Parses σ text pos r → w ≡ parsedWords r
-      → ParsedWords (settingsOf word) text pos w
-  parsed-words {w} {pos} p e =
-      subst (λ (τ : Settings). ParsedWords τ text pos w) is (subst (ParsedWords σ text pos) (sym e) (ParsedWords.parsed p))
+module _ (word : ℕ) {σ : Settings} (is : σ ≡ settingsOf word) where
+  -- what holds by these settings, of an answer's words, holds by those that the word says, of words equal to them
+  said : (P : Settings → List ℕ → Type 0) (u : List ℕ) {w : List ℕ} → P σ u → w ≡ u → P (settingsOf word) w
+  said P u {w} p e = subst (λ (τ : Settings). P τ w) is (subst (P σ) (sym e) p)
 
-  pub annotated-words : {w : List ℕ} {pos : ℕ} (f : Found) → Annotates σ text pos f → w ≡ foundWords f
-      → AnnotatedWords (settingsOf word) text pos w
-  annotated-words {w} {pos} f a e =
-      subst (λ (τ : Settings). AnnotatedWords τ text pos w) is
-      (subst (AnnotatedWords σ text pos) (sym e) (AnnotatedWords.annotated f a))
+  module _ {text : List ℕ} where
+    pub parsed-words : {w : List ℕ} {pos : ℕ} {r : Parsed} → Parses σ text pos r → w ≡ parsedWords r
+        → ParsedWords (settingsOf word) text pos w
+    parsed-words {pos = pos} {r} p e = said (λ τ v. ParsedWords τ text pos v) (parsedWords r) (ParsedWords.parsed p) e
 
-  pub listed-words : {list w l : List ℕ} {start budget : ℕ} {r : Listed} → Listing σ text start budget list r l
-      → w ≡ listedWords r
-      → ListedWords (settingsOf word) text start budget list w l
-  listed-words {list} {w} {l} {start} {budget} p e =
-      subst (λ (τ : Settings). ListedWords τ text start budget list w l) is
-      (subst (λ (x : List ℕ). ListedWords σ text start budget list x l) (sym e) (ListedWords.listed p))
+    pub annotated-words : {w : List ℕ} {pos : ℕ} (f : Found) → Annotates σ text pos f → w ≡ foundWords f
+        → AnnotatedWords (settingsOf word) text pos w
+    annotated-words {pos = pos} f a e =
+        said (λ τ v. AnnotatedWords τ text pos v) (foundWords f) (AnnotatedWords.annotated f a) e
+
+    pub listed-words : {list w l : List ℕ} {start budget : ℕ} {r : Listed} → Listing σ text start budget list r l
+        → w ≡ listedWords r
+        → ListedWords (settingsOf word) text start budget list w l
+    listed-words {list} {l = l} {start} {budget} {r} p e =
+        said (λ τ v. ListedWords τ text start budget list v l) (listedWords r) (ListedWords.listed p) e
 
 -- ---- readers: what words that name no token stand for is nowhere
 
