@@ -6,27 +6,17 @@ use mathlib.Core.List.{List, [], _∷_}
 use native.Mathlib.Omega.{arith}
 use lib.ListN.{length, take, drop, length-append, length-drop, drop-of-length-le}
 use lib.Seq.{take-append-seam, drop-drop, length-take-le}
-use Rattle.wat.specs.Utf8.{table, Char, scalar}
+use Rattle.wat.specs.Utf8.{Char, scalar}
 use Rattle.wat.specs.declared.Front.{Front}
 use Rattle.wat.specs.declared.Front.the-variants.{Whole, Wrong, Cut}
 use Rattle.wat.specs.Utf8Model.{front}
 use Rattle.wat.specs.StringModel.{nothing, peek}
-use Rattle.wat.proofs.Utf8Rows.{char-full, fits-length}
+use Rattle.wat.proofs.Utf8Rows.{char-full}
 use Rattle.wat.proofs.Utf8Laws.{View, whole, cut, wrong, viewed}
-use Rattle.wat.proofs.ScalarValues.{All, all-listed, char-right}
+use Rattle.wat.proofs.ScalarValues.{char-short, char-right}
 use Rattle.wat.proofs.Scalars.{scalar-split}
 use Rattle.wat.proofs.Basics.{differ}
 use Rattle.utf8_chars.specs.Decoding.{Character}
-
--- no row of the table has more than four ranges
-rows-short : All (λ row. length row ≤ 4) table
-unfolding table
-rows-short =
-    let last : All (λ row. length row ≤ 4) (drop 5 table) = (omega arith, (omega arith, (omega arith, (omega arith, tt)))) in
-    (omega arith, (omega arith, (omega arith, (omega arith, (omega arith, last)))))
-
-char-short : (c : List ℕ) → Char c → length c ≤ 4
-char-short c ch = let r = all-listed (λ row. length row ≤ 4) table rows-short (ch .listed) in omega (arith, fits-length (ch .fits))
 
 char-some : (c : List ℕ) → Char c → 1 ≤ length c
 char-some [] ch = absurd (char-full ch)
@@ -53,7 +43,7 @@ front-char (b ∷ t) n h = go h (viewed b t)
         record {
           is = rw (l, e, take-append-seam c u) ch;
           some = omega (arith, char-some c ch);
-          few = omega (arith, char-short c ch);
+          few = omega (arith, char-short ch);
           fits = omega (arith, length-append c u, ap length e);
         }
     go h (cut i nc x) = differ (cc)

@@ -1,15 +1,17 @@
--- The bytes of a character are those of its scalar value. Assumes nothing.
+-- The bytes of a character are those of its scalar value, and at most four. Assumes nothing.
 use Prim.Native.Nat.{ℕ, _+_, _*_, _/_, _%_, _≤_, _<_}
 use mathlib.Core.Path.{_≡_}
 use mathlib.Core.Logic.{⊎-elim}
 use mathlib.Core.List.{List, [], _∷_, List·Memᴰ, List·Memᴰ·not-nil, List·Memᴰ·cases-cons}
 use mathlib.Core.Bool.{true}
 use native.Mathlib.Omega.{arith}
+use lib.ListN.{length, drop}
 use borrow.Author.Tests.{le-ltb, lt-ltb}
 use Rattle.wat.specs.Utf8.{Range, _‥_, table, Fits, Char, scalar}
 use Rattle.wat.specs.Chars.{isScalar}
 use Rattle.wat.specs.StringModel.{encode}
 use Rattle.wat.proofs.Basics.{between-in}
+use Rattle.wat.proofs.Utf8Rows.{fits-length}
 
 -- scalar values: the bytes of a character are those of its scalar value
 
@@ -20,6 +22,15 @@ All P (r ∷ t) = P r × All P t
 pub all-listed : (P : List Range → Type 0) (t : List (List Range)) {r : List Range} → All P t → List·Memᴰ r t → P r
 all-listed P [] a m = absurd (List·Memᴰ·not-nil m)
 all-listed P (r ∷ t) a m = ⊎-elim (λ e. rw e (a .0)) (λ m′. all-listed P t (a .1) m′) (List·Memᴰ·cases-cons m)
+
+rows-short : All (λ row. length row ≤ 4) table
+unfolding table
+rows-short =
+    let last : All (λ row. length row ≤ 4) (drop 5 table) = (omega arith, (omega arith, (omega arith, (omega arith, tt)))) in
+    (omega arith, (omega arith, (omega arith, (omega arith, (omega arith, last)))))
+
+pub char-short : {c : List ℕ} → Char c → length c ≤ 4
+char-short ch = omega (arith, fits-length (ch .fits), all-listed (λ row. length row ≤ 4) table rows-short (ch .listed))
 
 abbrev Right : List ℕ → Type 0
 Right c = (encode (scalar c) ≡ c) × (isScalar (scalar c) ≡ true)

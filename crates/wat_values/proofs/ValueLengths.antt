@@ -11,27 +11,12 @@ use Rattle.wat.specs.declared.TokenKind.{TokenKind}
 use Rattle.wat.specs.declared.LexError.{LexError}
 use Rattle.wat.specs.Bytes.{byte, has}
 use Rattle.wat.specs.declared.Settings.{Settings}
-use Rattle.wat.specs.Utf8.{table, Char}
 use Rattle.wat.specs.Numbers.{prefix, nan-colon, Signed}
 use Rattle.wat.specs.Strings.{Elem, Elems, Str}
 use Rattle.wat_values.specs.Values.{Reader, Value, copyOrPart, copied, bare, kept, Name}
 use Rattle.wat_values.specs.Values.{Split, Reads}
 use Rattle.wat_values.specs.Reading.{needs}
-use Rattle.wat.proofs.Utf8Rows.{fits-length}
-use Rattle.wat.proofs.ScalarValues.{All, all-listed}
-
-table-short : All (λ row. length row ≤ 4) table
-unfolding table
-table-short = (
-  omega arith,
-  (
-    omega arith,
-    (omega arith, (omega arith, (omega arith, (omega arith, (omega arith, (omega arith, (omega arith, tt))))))),
-  ),
-)
-
-char-short : {c : List ℕ} → Char c → length c ≤ 4
-char-short ch = omega (arith, fits-length (ch .fits), all-listed (λ row. length row ≤ 4) table table-short (ch .listed))
+use Rattle.wat.proofs.ScalarValues.{char-short}
 
 elem-short : {σ : Settings} {s v : List ℕ} → Elem σ s v → length v ≤ length s
 elem-short (Elem.raw ch p q r h) = omega arith
