@@ -16,7 +16,7 @@ use Rattle.wat_laws.proofs.WindowCalls.{window-stands, window-parses, w
 
 module _ (before piece rest : List ℕ) (begins : Stands (before ++ (piece ++ rest)) (length before)) where
   -- the text from the piece on
-  behind : Text (piece ++ rest)
+  pub behind : Text (piece ++ rest)
   behind =
       record {
         short = omega (arith, begins .sound .short, length-append before (piece ++ rest));

@@ -29,11 +29,11 @@ module _ (before tail : List ℕ) (whole : Text (before ++ tail)) where
   left : (pos : ℕ) → drop (length before + pos) (before ++ tail) ≡ drop pos tail
   left pos = drop-append-add before tail pos
 
-  tail-stands : {pos : ℕ} → Stands tail pos → Stands (before ++ tail) (length before + pos)
+  pub tail-stands : {pos : ℕ} → Stands tail pos → Stands (before ++ tail) (length before + pos)
   tail-stands {pos} s =
       record { sound = whole; within = omega (arith, s .within, length-append before tail); between = rw (left pos) (s .between) }
 
-  tail-lexed : {σ : Settings} (pos : ℕ) {a : Answer} → Lexed σ (drop pos tail) a
+  pub tail-lexed : {σ : Settings} (pos : ℕ) {a : Answer} → Lexed σ (drop pos tail) a
       → Lexed σ (drop (length before + pos) (before ++ tail)) a
   tail-lexed pos l = rw (left pos) l
 

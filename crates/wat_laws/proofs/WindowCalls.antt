@@ -50,13 +50,16 @@ module _ (front rest : List ℕ) (whole : Text (front ++ rest)) where
             (formed-append (s .between) (formed-rest rest (s .sound .formed) (whole .formed)));
       }
 
+  -- what is left of the text from a position of the front on
+  pub window-left : {pos : ℕ} → Stands front pos → WellFormed (drop pos front ++ rest)
+  window-left {pos} s = rw (drop-append-le pos front rest (s .within)) at (window-stands s .between)
+
   -- what is lexed at a position of the front
-  lexed-at : {σ : Settings} {pos : ℕ} {a : Answer} → Stands front pos → Lexed σ (drop pos front) a → DecidedAnswer (drop pos front) a
+  pub lexed-at : {σ : Settings} {pos : ℕ} {a : Answer} → Stands front pos → Lexed σ (drop pos front) a
+      → DecidedAnswer (drop pos front) a
       → Lexed σ (drop pos (front ++ rest)) a
-  lexed-at {σ} {pos} {a} s l i =
-      let e = drop-append-le pos front rest (s .within) in
-      let g : WellFormed (drop pos front ++ rest) = rw e at (window-stands s .between) in
-      rw e (window-lexed rest (s .between) g l i)
+  lexed-at {pos = pos} s l i =
+      rw (drop-append-le pos front rest (s .within)) (window-lexed rest (s .between) (window-left s) l i)
 
   -- ---- parse
 
