@@ -1,0 +1,7 @@
+mod Sides
+mod Balances
+mod Levels
+mod FewBytes
+pub mod FoldLaws
+pub mod InnerForms
+pub mod FoldWindows
