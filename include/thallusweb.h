@@ -1,8 +1,9 @@
 /* Thallusweb: a lexer for the WebAssembly text format with one proved reading.
  *
- * thallusweb_list takes a text apart into tokens, thallusweb_parse gives one token; thallusweb_read and thallusweb_part
- * give what a string, a name or a number among them stands for, and thallusweb_integer_32 and thallusweb_integer_64 an
- * integer's value; thallusweb_move counts lines and columns. The program examples/c/list.c does all of this.
+ * thallusweb_list takes a text apart into tokens, thallusweb_parse gives one token, thallusweb_fold finds the end of a
+ * form; thallusweb_read and thallusweb_part give what a string, a name or a number among the tokens stands for, and
+ * thallusweb_integer_32 and thallusweb_integer_64 an integer's value; thallusweb_move counts lines and columns. The
+ * program examples/c/list.c does all of this.
  *
  * A text is an array of bytes in UTF-8, at most THALLUSWEB_MAX_TEXT of them; another is refused by number. No 0 byte
  * ends it: a 0 is a character like others. Lengths, positions, offsets and places count bytes.
@@ -35,19 +36,22 @@ extern "C" {
 
 /* The number of this header's words, constants and prototypes. It rises whenever one of them changes, comes or goes: a
  * library belongs to this header where thallusweb_version returns THALLUSWEB_VERSION. */
-#define THALLUSWEB_VERSION 2
+#define THALLUSWEB_VERSION 3
 uint32_t thallusweb_version(void);
 
-/* The longest text that is lexed, the bytes of a token's record in a list, and a buffer that holds every message. */
+/* The longest text that is lexed, the bytes of a token's record in a list, a buffer that holds every message, and how
+ * deep forms may stand in each other. */
 #define THALLUSWEB_MAX_TEXT 16777216
 #define THALLUSWEB_RECORD 6
 #define THALLUSWEB_MESSAGE 64
+#define THALLUSWEB_LEVELS 64
 
 /* How many words there are: in the `out` of each call, and for a token. */
 #define THALLUSWEB_UTF8_WORDS 3
 #define THALLUSWEB_PARSE_WORDS 6
 #define THALLUSWEB_ANNOTATION_WORDS 5
 #define THALLUSWEB_LIST_WORDS 7
+#define THALLUSWEB_FOLD_WORDS 5
 #define THALLUSWEB_READ_WORDS 5
 #define THALLUSWEB_PART_WORDS 3
 #define THALLUSWEB_SIGN_WORDS 5
@@ -76,7 +80,7 @@ enum {
     THALLUSWEB_ABSENT = 0,    /* read, float_sign: the token has no such thing; part: an empty part */
     THALLUSWEB_IN_TEXT = 1,   /* read, part: a part of the text */
     THALLUSWEB_IN_BUFFER = 3, /* read, part: a part of the buffer */
-    THALLUSWEB_TOLD = 1       /* integer_sign, float_sign, integer_32, integer_64, message: out[1] says it */
+    THALLUSWEB_TOLD = 1       /* fold, integer_sign, float_sign, integer_32, integer_64, message: out[1] says it */
 };
 
 /* A token's kind: one of the first fifteen numbers, which `kind & THALLUSWEB_KIND_MASK` is, plus the bits of what a
@@ -138,12 +142,16 @@ enum {
 
     /* What a call cannot do. These have no place: it is 0. */
     THALLUSWEB_NOT_THAT_TOKEN = 30,   /* no token of that kind and length stands at the offset */
-    THALLUSWEB_NOT_THAT_KIND = 31,    /* the reader does not take tokens of that kind */
+    THALLUSWEB_NOT_THAT_KIND = 31,    /* the reader does not take tokens of that kind; fold: no ( stands there */
     THALLUSWEB_BUFFER_TOO_SHORT = 32, /* the copy or the message is longer than the buffer */
     THALLUSWEB_LIST_FULL = 33,        /* the list has no room for the next token; out[0] is THALLUSWEB_FULL */
     THALLUSWEB_NO_MESSAGE = 34,       /* no error has that number and those values */
     THALLUSWEB_COUNTER_FULL = 35,     /* a line or column over 4,294,967,295: thallusweb_move returns false */
-    THALLUSWEB_OUT_OF_RANGE = 40      /* no word of so many bits is the integer's value */
+    THALLUSWEB_OUT_OF_RANGE = 40,     /* no word of so many bits is the integer's value */
+
+    /* What keeps a form from ending. */
+    THALLUSWEB_TOO_DEEP = 41, /* a ( that would be level THALLUSWEB_LEVELS + 1; the place is the ( */
+    THALLUSWEB_UNCLOSED = 42  /* the text ends, and a form is open; the place is the end of the text */
 };
 
 /* Whether the text, here of any length, is UTF-8. out: 0, 0, 0; or THALLUSWEB_REFUSED, valid-up-to and the number of
@@ -181,6 +189,16 @@ void thallusweb_annotation(const uint8_t *text, size_t len, uint32_t settings, s
  * Cost: one check of the whole text, then the tokens. */
 void thallusweb_list(const uint8_t *text, size_t len, uint32_t settings, size_t start, size_t budget, uint8_t *list,
                      size_t list_len, uint64_t out[7]);
+
+/* The end of the form whose ( stands at a position: comments, strings, inner forms and whatever else stands there are
+ * passed over, up to the ) that belongs to the (. The ( is level 1, and forms in it may go down to THALLUSWEB_LEVELS.
+ * out[0]:
+ *   THALLUSWEB_TOLD      out[1] the position past the )
+ *   THALLUSWEB_REFUSED   out[1] the number, out[2] its place, out[3] and out[4] its values: 1 to 4; 31 where no LParen
+ *                        token stands at the position, be it another, an error or the end; else the first in reading
+ *                        order of 10 to 21, 41 and 42
+ * Cost: a check of the whole text, then the form; each token is lexed once, however deep it stands. */
+void thallusweb_fold(const uint8_t *text, size_t len, uint32_t settings, size_t position, uint64_t out[5]);
 
 /* Readers. Digits come without underscores, without a + and without 0x; of a hexadecimal number, other than its
  * exponent, they are hexadecimal. */

@@ -41,6 +41,16 @@ fn iter(lexer: &Lexer) -> usize {
     lexer.iter(0).map(|item| drop(black_box(item))).count()
 }
 
+/// The forms one by one, over what stands between them.
+fn fold(lexer: &Lexer) -> usize {
+    let (mut position, mut calls) = (0, 0);
+    while position < lexer.input().len() {
+        position = black_box(lexer.fold(position)).unwrap_or(position + 1);
+        calls += 1;
+    }
+    calls
+}
+
 fn best(text: &str, each: Loop) -> (Duration, usize) {
     let lexer = Lexer::new(text);
     let runs = (0..RUNS).map(|_| {
@@ -55,7 +65,7 @@ fn main() {
     const WAT: &str =
         "(func $merge (param $upper i32) (result i32) (; over ;) local.get $upper i32.const 0x1_0) ;; one\n";
     let long = format!("(; {} ;)\n", "é ".repeat(10_000));
-    let loops: [(&str, Loop, &str); 8] = [
+    let loops: [(&str, Loop, &str); 9] = [
         ("parse, ordinary WAT", parse, WAT),
         ("parse, (", parse, "("),
         ("parse, comments of 30 kB", parse, &long),
@@ -64,6 +74,7 @@ fn main() {
         ("iter, ordinary WAT", iter, WAT),
         ("iter, comments of 30 kB", iter, &long),
         ("iter, \"\\q", iter, "\"\\q"),
+        ("fold, ordinary WAT", fold, WAT),
     ];
     for (name, each, piece) in loops {
         let [(one, _), (four, calls)] = [MIB, 4 * MIB].map(|size| best(&piece.repeat(size / piece.len()), each));

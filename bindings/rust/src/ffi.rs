@@ -24,6 +24,7 @@ mod c {
             list_len: usize,
             out: *mut u64,
         );
+        pub fn thallusweb_fold(text: *const u8, len: usize, settings: u32, position: usize, out: *mut u64);
         pub fn thallusweb_read(
             text: *const u8,
             len: usize,
@@ -48,7 +49,7 @@ mod c {
 }
 
 /// The version of the header that these bindings are written from.
-const VERSION: u32 = 2;
+const VERSION: u32 = 3;
 
 /// Stops the program if it is linked with a library of another version: its words would be misread. Asks once.
 #[inline]
@@ -73,7 +74,7 @@ thread_local! {
     static HANDED: std::cell::Cell<usize> = const { std::cell::Cell::new(0) };
 }
 
-/// How many bytes of text this thread has handed to `parse` and `list`.
+/// How many bytes of text this thread has handed to `parse`, `list` and `fold`.
 #[cfg(test)]
 pub fn handed() -> usize {
     HANDED.get()
@@ -114,6 +115,16 @@ pub fn list(text: &[u8], settings: u32, start: usize, budget: usize, list: &mut 
     let (at, room) = (list.as_mut_ptr(), list.len());
     // SAFETY: `text` and `list` are slices, with their lengths, and `list` is borrowed alone; `out` has the 7 words that are written.
     unsafe { c::thallusweb_list(text.as_ptr(), text.len(), settings, start, budget, at, room, out.as_mut_ptr()) };
+    out
+}
+
+pub fn fold(text: &[u8], settings: u32, position: usize) -> [u64; 5] {
+    same_version();
+    #[cfg(test)]
+    HANDED.set(HANDED.get() + text.len());
+    let mut out = [0; 5];
+    // SAFETY: `text` is a slice, with its length; `out` has the 5 words that are written, and is this call's own.
+    unsafe { c::thallusweb_fold(text.as_ptr(), text.len(), settings, position, out.as_mut_ptr()) };
     out
 }
 

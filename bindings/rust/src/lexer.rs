@@ -2,7 +2,7 @@
 
 pub use crate::iter::Iter;
 use crate::refusal::{Error, Refusal};
-use crate::window::{self, is_decided, refused, window};
+use crate::window::{self, is_decided, is_form_decided, refused, window};
 use crate::{Place, Settings, ffi};
 use std::borrow::Cow;
 use std::fmt;
@@ -317,12 +317,23 @@ pub(crate) fn found([what, number, place, first, second]: [u64; 5]) -> Result<Op
     }
 }
 
+/// What the call for a form's end answers.
+pub(crate) fn folded([what, number, place, first, second]: [u64; 5]) -> Result<usize, Error> {
+    match what {
+        1 => Ok(number as usize),
+        _ => Err(Error::from_words([number, place, first, second])),
+    }
+}
+
 impl<'a> Lexer<'a> {
     /// The longest text that is lexed, in bytes.
     pub const MAX_TEXT: usize = 16_777_216;
 
     /// The bytes of a token's record in a list.
     pub const RECORD: usize = 6;
+
+    /// How deep forms may stand in each other, the outer one being level 1.
+    pub const LEVELS: usize = 64;
 
     /// A lexer of a text, which refuses confusing characters.
     #[must_use]
@@ -462,6 +473,50 @@ impl<'a> Lexer<'a> {
         }
         let token = self.parse_by(&mut position, size)?;
         Ok(token.filter(|token| token.kind == TokenKind::Annotation))
+    }
+
+    /// The position past the form whose `(` stands at a position: past the `)` that belongs to it, over comments, strings, other tokens
+    /// and inner forms, down to [`Lexer::LEVELS`]. Takes the time of the form and not of the text; where it is refused, that of the text
+    /// at most.
+    ///
+    /// ```
+    /// use thallusweb::Refusal;
+    /// use thallusweb::lexer::Lexer;
+    ///
+    /// let text = "(a (; ) ;) (b \")\")) (c";
+    /// let lexer = Lexer::new(text);
+    /// assert_eq!(lexer.fold(0), Ok(19));
+    /// assert_eq!(&text[11..lexer.fold(11)?], "(b \")\")");
+    /// assert_eq!(lexer.fold(3).unwrap_err().refusal(), &Refusal::NotThatKind);
+    /// let error = lexer.fold(20).unwrap_err();
+    /// assert_eq!((error.refusal(), error.place()), (&Refusal::Unclosed, Some(22)));
+    /// # Ok::<(), thallusweb::Error>(())
+    /// ```
+    ///
+    /// # Errors
+    ///
+    /// [`Refusal::NotThatKind`], with no place, where no [`TokenKind::LParen`] stands at the position, be it another token, an error or the
+    /// end. Else what comes first behind the `(`, before its `)`: [`Refusal::Lex`] where the text does not lex, [`Refusal::TooDeep`] at a
+    /// `(` that would be a level too many, [`Refusal::Unclosed`] at the end of the text. Before all these a text over
+    /// [`Lexer::MAX_TEXT`], a position past the end and one inside a character are refused.
+    pub fn fold(&self, position: usize) -> Result<usize, Error> {
+        self.fold_by(position, window::FIRST)
+    }
+
+    /// By windows that begin with a size.
+    pub(crate) fn fold_by(&self, position: usize, mut size: usize) -> Result<usize, Error> {
+        if let Some(error) = refused(self.input, position) {
+            return Err(error);
+        }
+        loop {
+            let window = window(self.input, position, size);
+            let folded = folded(ffi::fold(window.as_bytes(), self.settings.word(), 0));
+            if position + window.len() == self.input.len() || is_form_decided(&folded, window) {
+                return folded.map(|end| position + end).map_err(|error| error.moved(position));
+            }
+            // each window is lexed anew, and only checked behind the form: better a few that are large
+            size *= 4;
+        }
     }
 
     /// The place of a position in the text: counts from the text's start, so that it is for error messages.

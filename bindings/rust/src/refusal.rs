@@ -20,12 +20,16 @@ pub enum Refusal {
     Lex(LexError),
     /// Lexing at the token's offset gives another token, or none.
     NotThatToken,
-    /// The reader does not read tokens of that kind.
+    /// The reader does not read tokens of that kind; for [`Lexer::fold`](crate::lexer::Lexer::fold), no `(` stands there.
     NotThatKind,
     /// A line or column does not fit the place counter.
     CounterFull,
     /// An integer's value does not fit so many bits.
     OutOfRange,
+    /// Forms stand in each other deeper than 64 levels.
+    TooDeep,
+    /// The text ends, and a form is open.
+    Unclosed,
 }
 
 impl Refusal {
@@ -42,6 +46,8 @@ impl Refusal {
             Refusal::NotThatKind => 31,
             Refusal::CounterFull => 35,
             Refusal::OutOfRange => 40,
+            Refusal::TooDeep => 41,
+            Refusal::Unclosed => 42,
         }
     }
 
@@ -55,6 +61,8 @@ impl Refusal {
             31 => Refusal::NotThatKind,
             35 => Refusal::CounterFull,
             40 => Refusal::OutOfRange,
+            41 => Refusal::TooDeep,
+            42 => Refusal::Unclosed,
             _ => LexError::from_words(number, values).map_or(Refusal::NotThatToken, Refusal::Lex),
         }
     }
@@ -69,9 +77,11 @@ impl fmt::Display for Refusal {
             Refusal::InsideCharacter => f.write_str("position inside a character"),
             Refusal::Lex(error) => error.fmt(f),
             Refusal::NotThatToken => f.write_str("no such token there"),
-            Refusal::NotThatKind => f.write_str("a token of another kind than the reader's"),
+            Refusal::NotThatKind => f.write_str("no token of a kind that the call takes"),
             Refusal::CounterFull => f.write_str("line or column too large"),
             Refusal::OutOfRange => f.write_str("integer out of range"),
+            Refusal::TooDeep => f.write_str("forms nested deeper than 64 levels"),
+            Refusal::Unclosed => f.write_str("unclosed form"),
         }
     }
 }
@@ -118,7 +128,8 @@ impl Error {
     /// From the last four of five words.
     pub(crate) fn from_words([number, place, first, second]: [u64; 4]) -> Error {
         let refusal = Refusal::from_words(number, [first, second]);
-        let place = if number < 30 { Some(place as usize) } else { None };
+        // what a call cannot do stands nowhere
+        let place = if (30..=40).contains(&number) { None } else { Some(place as usize) };
         Error { refusal, place }
     }
 

@@ -1,13 +1,13 @@
 //! Windows of a text. A call checks the text that it is given; so it is given a window of it, which begins at the position and grows
 //! until the answer is decided. All calls of a loop together then take as long as the text is.
 //!
-//! That a decided answer is the text's own is proved (`slice-parses`, `slice-listing`; docs/ARCHITECTURE.md, windows), and so is an
-//! answer for a window that goes up to the text's end (`tail-parses`, `tail-listing`).
+//! That a decided answer is the text's own is proved (`slice-parses`, `slice-listing`, `slice-folds`; docs/ARCHITECTURE.md, windows), and
+//! so is an answer for a window that goes up to the text's end (`tail-parses`, `tail-listing`, `tail-folds`).
 
 use crate::lexer::{LexError, Lexer};
 use crate::refusal::{Error, Refusal};
 
-/// The window with which a call for one token begins.
+/// The window with which a call for one token, or for a form's end, begins.
 pub const FIRST: usize = 64;
 
 /// The refusal of a text and a position from which nothing is lexed, 1, 3 or 4, as the library gives it for the whole text. What is left
@@ -38,6 +38,24 @@ pub fn window(text: &str, position: usize, size: usize) -> &str {
 /// comment, with the position before the window's end.
 pub fn is_decided(error: Option<&Error>, position: usize, window: &str) -> bool {
     error.and_then(Error::lex_error) != Some(&LexError::DanglingBlockComment) && position < window.len()
+}
+
+/// Whether the form's end that was found in a window, or what keeps it from ending, is what the text has there too: where a byte of the
+/// window follows what was read.
+pub fn is_form_decided(folded: &Result<usize, Error>, window: &str) -> bool {
+    // a `)` is a token whatever follows
+    let Err(error) = folded else { return true };
+    let read = match error.refusal() {
+        // the byte behind a `(` says whether it is an opening
+        Refusal::NotThatKind => Some(1),
+        Refusal::TooDeep => error.place().map(|place| place + 1),
+        // an open comment is read up to the window's end, and one that confuses up to its own
+        Refusal::Lex(LexError::DanglingBlockComment | LexError::ConfusingUnicode(_)) => None,
+        // of all others the last that is read is the character at the place, of at most four bytes
+        Refusal::Lex(_) => error.place().map(|place| place + 4),
+        _ => None,
+    };
+    read.is_some_and(|read| read < window.len())
 }
 
 #[cfg(test)]
@@ -80,6 +98,10 @@ mod tests {
         crate::lexer::found(ffi::annotation(lexer.input().as_bytes(), lexer.settings().word(), position))
     }
 
+    fn folded_whole(lexer: &Lexer, position: usize) -> Result<usize, Error> {
+        crate::lexer::folded(ffi::fold(lexer.input().as_bytes(), lexer.settings().word(), position))
+    }
+
     fn parsed(lexer: &Lexer, position: usize, size: usize) -> (Result<Option<Token>, Error>, usize) {
         let mut after = position;
         (lexer.parse_by(&mut after, size), after)
@@ -100,6 +122,34 @@ mod tests {
                     }
                 }
             }
+        }
+    }
+
+    /// Texts of parentheses and these pieces, in which forms are nested less, just as and more deep than may be.
+    fn nests(count: usize) -> impl Iterator<Item = String> {
+        let pieces =
+            texts(count, 6).zip(texts(count, 3).skip(1)).zip([0, 1, 2, 60, 62, 63, 64, 65].into_iter().cycle());
+        pieces.map(|((inner, behind), depth)| format!("{}{inner}{}{behind}", "(".repeat(depth), ")".repeat(depth)))
+    }
+
+    /// The same for the end of a form.
+    #[test]
+    fn windows_of_a_form_do_not_show() {
+        let mut numbers = std::collections::BTreeSet::new();
+        for text in texts(3_000, 8).chain(nests(1_000)) {
+            for lexer in both(&text) {
+                for position in positions(&text) {
+                    let whole = folded_whole(&lexer, position);
+                    numbers.insert(whole.as_ref().map_or_else(|error| error.refusal().number(), |_| 0));
+                    for size in [1, 2, 3, 5, 8, FIRST, 65] {
+                        let shown = || format!("{text:?} at {position} by windows of {size}, {:?}", lexer.settings());
+                        assert_eq!(lexer.fold_by(position, size), whole, "fold of {}", shown());
+                    }
+                }
+            }
+        }
+        for number in [0, 3, 4, 10, 11, 13, 14, 16, 17, 20, 21, 31, 41, 42] {
+            assert!(numbers.contains(&number), "no answer has {number}");
         }
     }
 
@@ -141,6 +191,7 @@ mod tests {
                     }
                     assert_eq!(parsed(&lexer, position, FIRST), whole, "at {position}");
                     assert_eq!(lexer.annotation(position), annotation_whole(&lexer, position), "at {position}");
+                    assert_eq!(lexer.fold(position), folded_whole(&lexer, position), "at {position}");
                 }
             }
         }
@@ -172,5 +223,39 @@ mod tests {
                 assert!(given <= 4 * text.len() + 2 * crate::iter::LEAST * items, "{given} bytes for {items} items");
             }
         }
+    }
+
+    /// So it does for the ends of all forms of a text, and for a form that is as long as the text.
+    #[test]
+    fn bytes_given_are_in_line_with_the_forms() {
+        let deep = format!("{}{}", "(a ".repeat(65), ")".repeat(65));
+        for text in [
+            "() ",
+            "(@a b) ",
+            "(a (b \"\\)",
+            "(a é) ",
+            "(func (; ) ;) (param $x i32) (result i32) local.get $x)\n",
+            &deep,
+        ] {
+            let text = text.repeat(100_000 / text.len());
+            for lexer in both(&text) {
+                let before = ffi::handed();
+                let (mut position, mut calls, mut forms) = (0, 0, 0);
+                while position < text.len() {
+                    let folded = lexer.fold(position);
+                    forms += folded.as_ref().map_or(0, |end| end - position);
+                    calls += 1;
+                    position = folded.unwrap_or(position + 1);
+                    position += usize::from(!text.is_char_boundary(position));
+                }
+                let given = ffi::handed() - before;
+                // what is refused here is refused within 65 openings
+                assert!(given <= 6 * forms + 6 * (FIRST + 4 * 65) * calls, "{given} bytes in {calls} calls");
+            }
+        }
+        let text = format!("({})", "a \"(\" ".repeat(50_000));
+        let before = ffi::handed();
+        assert_eq!(Lexer::new(&text).fold(0), Ok(text.len()));
+        assert!(ffi::handed() - before <= 6 * text.len());
     }
 }

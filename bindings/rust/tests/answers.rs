@@ -102,6 +102,45 @@ fn values_of_integers() {
     }
 }
 
+/// The request's examples, the deepest level, and what is refused.
+#[test]
+fn ends_of_forms() {
+    let fold = |text: &str, position| Lexer::new(text).fold(position);
+    let refused = |text: &str, position| {
+        let error = fold(text, position).unwrap_err();
+        (error.refusal().clone(), error.place())
+    };
+    assert_eq!(fold("(a (b))", 0), Ok(7));
+    assert_eq!(fold("(a (b))", 3), Ok(6));
+    assert_eq!(fold("(; ) ;)(a)", 7), Ok(10));
+    assert_eq!(fold("(@x \")\" ;;)\n)", 0), Ok(13));
+    assert_eq!(refused("(a (b)", 0), (Refusal::Unclosed, Some(6)));
+    assert_eq!(refused("a(\"\\q\")", 1), (Refusal::Lex(LexError::InvalidStringEscape('q')), Some(4)));
+    assert_eq!(fold("a(b (;)", 1).unwrap_err().to_string(), "unterminated block comment at byte 4");
+    // no `(`, none that opens a form, and an error in its place
+    for (text, position) in
+        [("(; ) ;)(a)", 0), ("(a)", 1), ("(a)", 2), ("(a)", 3), ("", 0), ("(;", 0), ("\"\\q\"", 0), ("é", 0)]
+    {
+        assert_eq!(refused(text, position), (Refusal::NotThatKind, None), "{text:?} at {position}");
+    }
+    // refused before all
+    assert_eq!(refused("é(", 1), (Refusal::InsideCharacter, Some(1)));
+    assert_eq!(refused("(a)", 4), (Refusal::PastEnd, Some(4)));
+    assert_eq!(refused(&"(".repeat(Lexer::MAX_TEXT + 1), usize::MAX), (Refusal::TooLong, Some(usize::MAX)));
+    // levels, each with what is far longer than a window
+    let long = format!("(;{};)(b \"{}\") ", ")".repeat(300), ")".repeat(300));
+    let nested = |levels: usize| format!("a {}{}", format!("({long}").repeat(levels), ")".repeat(levels));
+    assert_eq!(fold(&nested(Lexer::LEVELS - 1), 2), Ok(nested(Lexer::LEVELS - 1).len()));
+    let text = nested(Lexer::LEVELS);
+    assert_eq!(refused(&text, 2), (Refusal::TooDeep, text.rfind("(b")));
+    let (deepest, too_deep) = ("(".repeat(64), "(".repeat(65));
+    assert_eq!(refused(&deepest, 0), (Refusal::Unclosed, Some(64)));
+    assert_eq!(refused(&too_deep, 0), (Refusal::TooDeep, Some(64)));
+    assert_eq!(refused(&too_deep, 1), (Refusal::Unclosed, Some(65)));
+    assert_eq!(fold(&too_deep, 0).unwrap_err().linecol_in(&too_deep), Some((0, 64)));
+    assert_eq!(fold(&format!("{deepest}{}", ")".repeat(65)), 0), Ok(128));
+}
+
 #[test]
 fn names() {
     assert_eq!(one("$\"a b\"").id("$\"a b\"").unwrap(), "a b");
@@ -127,6 +166,7 @@ fn settings() {
         assert_eq!(lexer.settings(), settings);
         assert_eq!(lexer.parse(&mut 0).is_ok(), allows);
         assert_eq!(lexer.annotation(0).is_ok(), allows);
+        assert_eq!(Lexer::with_settings(&format!("({text})"), settings).fold(0).is_ok(), allows);
         assert_eq!(lexer.iter(0).all(|token| token.is_ok()), allows);
         assert_eq!(lexer.list(0, 1, &mut [0; Lexer::RECORD]).count, usize::from(allows));
     }
@@ -142,6 +182,7 @@ fn nothing_panics() {
             let mut after = position;
             let parsed: Result<Option<Token>, Error> = lexer.parse(&mut after);
             let _ = (parsed, lexer.annotation(position), lexer.iter(position).take(4).count(), lexer.place(position));
+            let _ = lexer.fold(position);
             for len in [0, 1, 2, u32::MAX] {
                 let token = Token { kind: TokenKind::String, offset: position, len };
                 let _ = (token.src(text), token.id(text), token.annotation(text), token.read(text, Reader::Payload));
@@ -233,9 +274,11 @@ fn refusals() {
         (3, Refusal::PastEnd, "position past the end of the text"),
         (4, Refusal::InsideCharacter, "position inside a character"),
         (30, Refusal::NotThatToken, "no such token there"),
-        (31, Refusal::NotThatKind, "a token of another kind than the reader's"),
+        (31, Refusal::NotThatKind, "no token of a kind that the call takes"),
         (35, Refusal::CounterFull, "line or column too large"),
         (40, Refusal::OutOfRange, "integer out of range"),
+        (41, Refusal::TooDeep, "forms nested deeper than 64 levels"),
+        (42, Refusal::Unclosed, "unclosed form"),
     ];
     for (number, refusal, message) in own {
         assert_eq!((refusal.number(), refusal.to_string()), (number, message.to_string()));

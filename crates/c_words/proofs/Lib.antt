@@ -1,2 +1,3 @@
 mod WordLaws
 pub mod RefusalLaws
+pub mod FoldTell

@@ -7,10 +7,13 @@ use Rattle.wat.specs.declared.Checked.the-variants.{Ok, Bad}
 use Rattle.wat.specs.declared.Found.the-variants as found
 use Rattle.wat.specs.declared.Stop.the-variants as stop
 use Rattle.wat.specs.Cases.{kindNumber, number, listFull}
+use Rattle.wat_forms.specs.declared.Folded.{Folded}
+use Rattle.wat_forms.specs.declared.Folded.the-variants as folded
+use Rattle.wat_forms.specs.Forms.{tooDeep, unclosed}
 
 -- the number of the words and constants of include/thallusweb.h: a header and a library of one number belong together
 abbrev pub wordsVersion : ℕ
-wordsVersion = 2
+wordsVersion = 3
 
 -- 0, or 2 and its two numbers
 abbrev pub checkedWords : Checked → List ℕ
@@ -41,3 +44,10 @@ stopWords stop.Full = 3 ∷ listFull ∷ 0 ∷ 0 ∷ 0 ∷ []
 -- why it stopped, how many tokens it handed out, and the position
 abbrev pub listedWords : Listed → List ℕ
 listedWords r = stopWords (r .stop) ++ (r .count ∷ r .position ∷ [])
+
+-- 1 and the position past a form; or 2 and a refusal, with its number and its place
+abbrev pub foldedWords : Folded → List ℕ
+foldedWords (folded.Refused r p) = refusedWords r p
+foldedWords (folded.TooDeep p) = 2 ∷ tooDeep ∷ p ∷ 0 ∷ 0 ∷ []
+foldedWords (folded.Unclosed p) = 2 ∷ unclosed ∷ p ∷ 0 ∷ 0 ∷ []
+foldedWords (folded.Past at) = 1 ∷ at ∷ 0 ∷ 0 ∷ 0 ∷ []

@@ -1,16 +1,17 @@
 // The lexer's answers as words: what crosses the border to C. include/thallusweb.h explains each word.
 ghost use mathlib.Core.Path.{_≡_};
 ghost use Rattle.c_words.specs.Words.{refusedWords, checkedWords, foundWords};
-ghost use Rattle.c_words.specs.Words.{parsedWords, stopWords, listedWords, wordsVersion};
+ghost use Rattle.c_words.specs.Words.{parsedWords, stopWords, listedWords, foldedWords, wordsVersion};
 use wat::Checked;
 use wat::Found;
 use wat::Listed;
 use wat::Parsed;
 use wat::Refusal;
 use wat::Stop;
+use wat_forms::Folded;
 
 // The number of the words and constants of include/thallusweb.h, there THALLUSWEB_VERSION. It rises when one changes.
-pub const VERSION: u32 = 2;
+pub const VERSION: u32 = 3;
 
 pub fn version() -> u32
     ensures { λ r. ⌜ r ≡ wordsVersion ⌝ }
@@ -92,4 +93,16 @@ pub fn listed_words(l: Listed) -> [u64; 7]
         l.count as u64,
         l.position as u64,
     ]
+}
+
+// 1 and the position past a form, or 2 and a refusal; 41 and 42 have their place too.
+pub fn folded_words(f: Folded) -> [u64; 5]
+    ensures { λ w. ⌜ w ≡ foldedWords f ⌝ }
+{
+    match f {
+        Folded::Refused { refusal, place } => refused_words(refusal, place),
+        Folded::TooDeep { place } => [2, 41, place as u64, 0, 0],
+        Folded::Unclosed { place } => [2, 42, place as u64, 0, 0],
+        Folded::Past(position) => [1, position as u64, 0, 0, 0],
+    }
 }

@@ -5,11 +5,13 @@ ghost use denote.Ref.{at-last};
 ghost use Rattle.wat.specs.Calls.{most, Parses, Annotates};
 ghost use Rattle.wat.specs.Division.{Listing};
 ghost use Rattle.wat.specs.Settings.{plain};
+ghost use Rattle.wat_forms.specs.Forms.{Folds};
 ghost use Rattle.lex_struct.specs.Allowing.{allowing};
 use wat::Found;
 use wat::Listed;
 use wat::Settings;
 use wat::Token;
+use wat_forms::Folded;
 
 // A text of any bytes, which each call checks, and the settings by which it is read.
 pub struct Lexer<'a> {
@@ -73,6 +75,13 @@ impl<'a> Lexer<'a> {
             (now (list .entry)) r (now (list .exit)) ⌝ }
     {
         lex_list::list(self.text, self.settings, start, budget, list)
+    }
+
+    // The position past the form that begins at a position.
+    pub fn fold(&self, pos: usize) -> Folded
+        ensures { λ r. ⌜ Folds (now (self .entry) .settings) (now (now (self .entry) .text)) pos r ⌝ }
+    {
+        lex_forms::fold(self.text, self.settings, pos)
     }
 }
 

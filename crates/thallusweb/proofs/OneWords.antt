@@ -14,17 +14,18 @@ use Rattle.wat.proofs.Basics.{differ}
 use Rattle.wat.proofs.Utf8Laws.{says-one}
 use Rattle.wat_laws.proofs.OneCall.{parses-one, annotates-one}
 use Rattle.wat_laws.proofs.Listings.{listing-one}
+use Rattle.wat_forms.proofs.FoldLaws.{folds-one}
 use Rattle.wat_values.proofs.OneReading.{reads-sign-one, reads-negative-one}
 use Rattle.wat_values.proofs.IntegerLaws.{reads-word-one}
 use Rattle.messages.proofs.ByNumberLaws.{tells-by-one}
-use Rattle.c_words.specs.Words.{checkedWords, refusedWords, foundWords, parsedWords, listedWords}
+use Rattle.c_words.specs.Words.{checkedWords, refusedWords, foundWords, parsedWords, listedWords, foldedWords}
 use Rattle.c_read_words.specs.Words.{readingWords, integerSignWords, integerWords, floatSignWords, messageWords}
 use Rattle.c_asked.proofs.OneAsked.{named-one, named-or-not}
 use Rattle.c_spots.specs.Spots.{PartWords}
 use Rattle.read_call.specs.ByNumber.{ReadBy}
 use Rattle.read_call.proofs.OneReader.{nowhere-one, read-by-one}
 use Rattle.thallusweb.specs.Promises.{Utf8Checked, ParsedWords, AnnotatedWords, ListedWords, Nameless, ReadWords}
-use Rattle.thallusweb.specs.Promises.{IntegerSignWords, IntegerWords, FloatSignWords, MessageWords}
+use Rattle.thallusweb.specs.Promises.{FoldedWords, IntegerSignWords, IntegerWords, FloatSignWords, MessageWords}
 
 pub utf8-checked-one : {text a b : List ℕ} → Utf8Checked text a → Utf8Checked text b → a ≡ b
 utf8-checked-one {text} (Utf8Checked.checked r s) (Utf8Checked.checked q t) = ap checkedWords (says-one text r q s t)
@@ -42,6 +43,10 @@ pub listed-words-one : {σ : Settings} {text list a b l m : List ℕ} {start bud
 listed-words-one (ListedWords.listed p) (ListedWords.listed q) =
     let z = listing-one p q in
     (ap listedWords (z .0), z .1)
+
+pub folded-words-one : {σ : Settings} {text a b : List ℕ} {pos : ℕ} → FoldedWords σ text pos a → FoldedWords σ text pos b
+    → a ≡ b
+folded-words-one (FoldedWords.folded p) (FoldedWords.folded q) = ap foldedWords (folds-one p q)
 
 -- ---- readers
 

@@ -12,6 +12,8 @@ use Rattle.wat.specs.declared.{Fault.Fault, LexError.the-variants.UnexpectedEof
 use Rattle.wat.specs.declared.Answer.the-variants as answer
 use Rattle.wat.specs.declared.Stop.the-variants as stop
 use Rattle.wat_values.specs.declared.{Reading.Reading, IntegerSign.IntegerSign, IntegerValue.IntegerValue, FloatSign.FloatSign}
+use Rattle.wat_forms.specs.declared.Folded.{Folded}
+use Rattle.wat_forms.specs.declared.Folded.the-variants as folded
 use Rattle.messages.specs.declared.Told.{Told}
 use Rattle.place.specs.declared.{Place.Place, Moved.Moved}
 use Rattle.wat.specs.Settings.{lenient}
@@ -24,9 +26,13 @@ use Rattle.wat.specs.LexModel.{lex}
 use Rattle.wat_values.specs.Values.{Reader, Value, Reads}
 use Rattle.wat_values.specs.Reading.{Read, Second, ReadsSign, ReadsNegative}
 use Rattle.wat_values.specs.Integers.{ReadsWord}
+use Rattle.wat_forms.specs.Forms.{Folds}
+use Rattle.wat_forms.specs.Balance.{WholeForm, Structural}
+use Rattle.wat_forms.specs.Windows.{DecidedFold, MovedFold}
 use Rattle.read_second.specs.Parts.{PartFor}
 use Rattle.messages.specs.Messages.{Tells}
 use Rattle.place.specs.Places.{Moves}
+use Rattle.c_words.specs.Words.{foldedWords}
 use Rattle.c_read_words.specs.Words.{integerWords}
 use Rattle.wat.proofs.OneKind as kinds
 use Rattle.wat.proofs.Unique as unique
@@ -54,6 +60,10 @@ use Rattle.wat_values.proofs.IntegerLaws as integers
 use Rattle.read_second.proofs.PartLaws as part
 use Rattle.messages.proofs.OneMessage as message
 use Rattle.place.proofs.OnePlace as place
+use Rattle.wat_forms.proofs.FoldLaws as folding
+use Rattle.wat_forms.proofs.InnerForms as inner
+use Rattle.wat_forms.proofs.FoldWindows as pieces
+use Rattle.c_words.proofs.FoldTell as told
 use Rattle.c_read_words.proofs.TellLaws as tell
 
 -- ---- what passes can be read
@@ -113,6 +123,25 @@ pub eof-at-end : {σ : Settings} {s : List ℕ} {f : Fault} → Lexed σ s (answ
     → (f .place ≡ length s) × (f .after ≡ length s)
 eof-at-end l e = places.eof-at-end l e
 
+-- ---- forms
+
+-- A form that folds is the tokens of the division from its start up to its closing; its parentheses balance; and an opening
+-- that is met on the way begins a form that folds too, and ends inside.
+pub folds-whole : {σ : Settings} {text : List ℕ} {start end : ℕ} → Folds σ text start (folded.Past end)
+    → WholeForm σ text start end
+folds-whole f = inner.folds-whole f
+
+-- What folds with a setting off folds to the same place with everything allowed.
+pub folds-lenient : {σ : Settings} {text : List ℕ} {start end : ℕ} → Folds σ text start (folded.Past end)
+    → Folds lenient text start (folded.Past end)
+folds-lenient f = inner.folds-lenient f
+
+-- In a text that is divided to its end, folding at a place between its tokens answers no error of lexing: the end of a form, 31,
+-- 41 or 42.
+pub folds-listed : {σ : Settings} {text : List ℕ} {pos : ℕ} {ts us : List Piece} {a : Folded} → Divided σ text ts []
+    → Walked σ text 0 pos us → Folds σ text pos a → Structural a
+folds-listed d u f = inner.folds-listed d u f
+
 -- ---- windows
 
 -- What `parse` answers for a piece of a text it answers for the text, places moved by what stands before the piece, where the
@@ -134,6 +163,13 @@ pub slice-walked : (before piece rest : List ℕ) {σ : Settings} {start at : �
     → Stands (before ++ (piece ++ rest)) (length before) → Walked σ piece start at ts → at < length piece
     → Walked σ (before ++ (piece ++ rest)) (length before + start) (length before + at) ts
 slice-walked before piece rest s w h = slices.slice-walked before piece rest s w h
+
+-- A form that ends in the piece ends there in the text, also where the piece has no more bytes; 31 and 41 stand if a byte
+-- follows what they were told by, and other errors than 10 and 21 if more than a character is left from their place on.
+pub slice-folds : (before piece rest : List ℕ) {σ : Settings} {pos : ℕ} {a : Folded}
+    → Stands (before ++ (piece ++ rest)) (length before) → DecidedFold piece pos a → Folds σ piece pos a
+    → (b : Folded) × MovedFold (length before) a b × Folds σ (before ++ (piece ++ rest)) (length before + pos) b
+slice-folds before piece rest s d f = pieces.slice-folds before piece rest s d f
 
 -- ---- one token
 
@@ -179,6 +215,13 @@ annotates-one a b = calls.annotates-one a b
 pub listing-one : {σ : Settings} {text : List ℕ} {start budget : ℕ} {list l l′ : List ℕ} {r r′ : Listed}
     → Listing σ text start budget list r l → Listing σ text start budget list r′ l′ → (r ≡ r′) × (l ≡ l′)
 listing-one a b = listings.listing-one a b
+
+pub folds-one : {σ : Settings} {text : List ℕ} {pos : ℕ} {a b : Folded} → Folds σ text pos a → Folds σ text pos b → a ≡ b
+folds-one a b = folding.folds-one a b
+
+-- For callers from C: its words tell the answer, so that 41 and 42 are no refusal's numbers.
+pub folded-words-tell : (a b : Folded) → foldedWords a ≡ foldedWords b → a ≡ b
+folded-words-tell a b e = told.folded-words-tell a b e
 
 pub reads-one : {r : Reader} {k : TokenKind} {w : List ℕ} {v v′ : Value} → Reads r k w v → Reads r k w v′ → v ≡ v′
 reads-one a b = values.reads-one a b

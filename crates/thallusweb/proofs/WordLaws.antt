@@ -5,21 +5,23 @@ use mathlib.Core.List.{List}
 use lib.ListN.{getD}
 use Rattle.wat.specs.declared.{Checked.Checked, Found.Found, Parsed.Parsed, Listed.Listed, Token.Token, Refusal.Refusal}
 use Rattle.wat_values.specs.declared.{Reading.Reading, IntegerSign.IntegerSign, IntegerValue.IntegerValue, FloatSign.FloatSign}
+use Rattle.wat_forms.specs.declared.Folded.{Folded}
 use Rattle.messages.specs.declared.Told.{Told}
 use Rattle.wat.specs.declared.Settings.{Settings}
 use Rattle.wat.specs.Utf8.{Says}
 use Rattle.wat.specs.Calls.{Parses, Annotates}
 use Rattle.wat.specs.Division.{Listing}
+use Rattle.wat_forms.specs.Forms.{Folds}
 use Rattle.wat_values.specs.Reading.{ReadsSign, ReadsNegative}
 use Rattle.wat_values.specs.Integers.{ReadsWord}
 use Rattle.messages.specs.ByNumber.{TellsBy}
-use Rattle.c_words.specs.Words.{checkedWords, refusedWords, foundWords, parsedWords, listedWords}
+use Rattle.c_words.specs.Words.{checkedWords, refusedWords, foundWords, parsedWords, listedWords, foldedWords}
 use Rattle.c_read_words.specs.Words.{readingWords, integerSignWords, integerWords, floatSignWords, messageWords}
 use Rattle.c_asked.specs.Asked.{settingsOf, Denotes, DenotesNone, Empty, Asks}
 use Rattle.read_call.specs.ByNumber.{ReadBy, Nowhere}
 use Rattle.read_call.proofs.NowhereLaws.{read-nowhere, sign-nowhere, word-nowhere, negative-nowhere}
 use Rattle.thallusweb.specs.Promises.{Utf8Checked, ParsedWords, AnnotatedWords, ListedWords, Nameless, ReadWords}
-use Rattle.thallusweb.specs.Promises.{IntegerSignWords, IntegerWords, FloatSignWords, MessageWords}
+use Rattle.thallusweb.specs.Promises.{FoldedWords, IntegerSignWords, IntegerWords, FloatSignWords, MessageWords}
 
 pub checked-words : {text w : List ℕ} (r : Checked) → Says text r → w ≡ checkedWords r → Utf8Checked text w
 checked-words {text} r s e = subst (Utf8Checked text) (sym e) (Utf8Checked.checked r s)
@@ -45,6 +47,10 @@ module _ (word : ℕ) {σ : Settings} (is : σ ≡ settingsOf word) where
         → ListedWords (settingsOf word) text start budget list w l
     listed-words {list} {l = l} {start} {budget} {r} p e =
         said (λ τ v. ListedWords τ text start budget list v l) (listedWords r) (ListedWords.listed p) e
+
+    pub folded-words : {w : List ℕ} {pos : ℕ} {r : Folded} → Folds σ text pos r → w ≡ foldedWords r
+        → FoldedWords (settingsOf word) text pos w
+    folded-words {pos = pos} {r} p e = said (λ τ v. FoldedWords τ text pos v) (foldedWords r) (FoldedWords.folded p) e
 
 -- ---- readers: what words that name no token stand for is nowhere
 

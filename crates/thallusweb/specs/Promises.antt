@@ -5,15 +5,17 @@ use lib.ListN.{getD}
 use Rattle.wat.specs.declared.{Checked.Checked, Token.Token, Refusal.Refusal, Found.Found, Parsed.Parsed, Listed.Listed}
 use Rattle.wat_values.specs.declared.{Reading.Reading, IntegerSign.IntegerSign, FloatSign.FloatSign}
 use Rattle.wat_values.specs.declared.IntegerValue.{IntegerValue}
+use Rattle.wat_forms.specs.declared.Folded.{Folded}
 use Rattle.messages.specs.declared.Told.{Told}
 use Rattle.wat.specs.declared.Settings.{Settings}
 use Rattle.wat.specs.Utf8.{Says}
 use Rattle.wat.specs.Calls.{Parses, Annotates}
 use Rattle.wat.specs.Division.{Listing}
+use Rattle.wat_forms.specs.Forms.{Folds}
 use Rattle.wat_values.specs.Reading.{ReadsSign, ReadsNegative}
 use Rattle.wat_values.specs.Integers.{ReadsWord}
 use Rattle.messages.specs.ByNumber.{TellsBy}
-use Rattle.c_words.specs.Words.{checkedWords, refusedWords, foundWords, parsedWords, listedWords}
+use Rattle.c_words.specs.Words.{checkedWords, refusedWords, foundWords, parsedWords, listedWords, foldedWords}
 use Rattle.c_read_words.specs.Words.{readingWords, integerSignWords, integerWords, floatSignWords, messageWords}
 use Rattle.c_asked.specs.Asked.{Denotes, DenotesNone}
 use Rattle.read_call.specs.ByNumber.{ReadBy, Nowhere}
@@ -30,6 +32,9 @@ pub data AnnotatedWords (σ : Settings) (text : List ℕ) (pos : ℕ) : List ℕ
 pub data ListedWords (σ : Settings) (text : List ℕ) (start budget : ℕ) (list : List ℕ) : List ℕ → List ℕ → Type 0 where
   listed : {r : Listed} {l : List ℕ} → Listing σ text start budget list r l
       → ListedWords σ text start budget list (listedWords r) l
+
+pub data FoldedWords (σ : Settings) (text : List ℕ) (pos : ℕ) : List ℕ → Type 0 where
+  folded : {r : Folded} → Folds σ text pos r → FoldedWords σ text pos (foldedWords r)
 
 -- ---- readers: the token is given by the words of its kind, offset and length
 

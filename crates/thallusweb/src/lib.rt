@@ -6,9 +6,10 @@ ghost use Rattle.c_asked.specs.Asked.{settingsOf};
 ghost use Rattle.c_spots.specs.Spots.{PartWords, MovedWords};
 ghost use Rattle.thallusweb.specs.Promises.{Utf8Checked, ParsedWords, AnnotatedWords};
 ghost use Rattle.thallusweb.specs.Promises.{ListedWords, ReadWords, IntegerSignWords, IntegerWords};
-ghost use Rattle.thallusweb.specs.Promises.{FloatSignWords, MessageWords};
+ghost use Rattle.thallusweb.specs.Promises.{FloatSignWords, FoldedWords, MessageWords};
 pub use lex_calls::annotation;
 pub use lex_calls::parse;
+pub use lex_forms::fold;
 pub use lex_list::list;
 pub use lex_struct::Lexer;
 pub use messages::message;
@@ -92,6 +93,14 @@ pub extern "C" fn thallusweb_list(
         budget,
         list,
     ));
+}
+
+// The position past the form that begins at a position, or a refusal, in five words.
+#[no_mangle]
+pub extern "C" fn thallusweb_fold(text: &[u8], settings: u32, position: usize, out: &mut [u64; 5])
+    ensures { λ _. ⌜ FoldedWords (settingsOf settings) (now (text .entry)) position (now (out .exit)) ⌝ }
+{
+    *out = c_words::folded_words(lex_forms::fold(text, c_asked::settings_of(settings), position));
 }
 
 // A reader's first call, by the reader's number and the token's three words.
