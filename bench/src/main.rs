@@ -109,6 +109,10 @@ fn main() {
             Lexer::new(text).iter(0).count()
         });
     }
+    println!(
+        "\nthe end of a form of 16 MiB          ratio   MB/s, ours, by windows, the listing, the Rust's"
+    );
+    one_form(rounds, "ordinary WAT", texts::ordinary);
     println!("\nUTF-8 check, 16 MiB                  ratio   MB/s, ours and std's");
     for (name, piece) in TEXTS {
         utf8_check(rounds, name, piece);
@@ -394,6 +398,68 @@ fn grows(
         speed(texts[1].len(), ours),
         speed(texts[1].len(), theirs),
         ratio(times[1][0], times[0][0])
+    );
+}
+
+/// The call itself, which the bindings make for one window after the other.
+fn folded(text: &str) -> usize {
+    // SAFETY: as include/thallusweb.h declares it.
+    unsafe extern "C" {
+        fn thallusweb_fold(
+            text: *const u8,
+            len: usize,
+            settings: u32,
+            position: usize,
+            out: *mut u64,
+        );
+    }
+    let mut out = [0; 5];
+    // SAFETY: `text` goes with its length, and `out` has the five words that are written.
+    unsafe { thallusweb_fold(text.as_ptr(), text.len(), 0, 0, out.as_mut_ptr()) };
+    assert_eq!(out[0], 1, "a form");
+    out[1] as usize
+}
+
+/// As the original's parser passes over an annotation (docs/src/src/parser.rs, `skip_annotation`).
+fn folded_by_the_original(text: &str) -> usize {
+    let (lexer, mut position, mut open) = (Lexer::new(text), 0, 0);
+    while let Some(token) = lexer.parse(&mut position).expect("a text that lexes") {
+        match token.kind {
+            lexer::TokenKind::LParen => open += 1,
+            lexer::TokenKind::RParen => open -= 1,
+            _ => {}
+        }
+        if open == 0 {
+            break;
+        }
+    }
+    position
+}
+
+/// The end of a form that is the whole text: by one call, by the bindings' windows, and beside a listing of the text.
+fn one_form(rounds: u32, name: &str, piece: Piece) {
+    let text = format!("({})", text(SIZES[2] - 2, piece));
+    let mut list = vec![0u8; 6 * text.len()];
+    for end in [
+        folded(&text),
+        Ours::new(&text).fold(0).expect("a form"),
+        folded_by_the_original(&text),
+    ] {
+        assert_eq!(end, text.len(), "{name}");
+    }
+    let times = best(
+        rounds,
+        [
+            &mut || _ = black_box(folded(black_box(&text))),
+            &mut || _ = black_box(Ours::new(black_box(&text)).fold(0)),
+            &mut || _ = black_box(Ours::new(black_box(&text)).list(0, usize::MAX, &mut list)),
+            &mut || _ = black_box(folded_by_the_original(black_box(&text))),
+        ],
+    );
+    let [ours, windows, listing, theirs] = times.map(|time| speed(text.len(), time));
+    println!(
+        "{name:36} {:>5.2} {ours:>10.0} {windows:>6.0} {listing:>6.0} {theirs:>6.0}",
+        ratio(times[0], times[3])
     );
 }
 

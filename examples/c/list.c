@@ -1,13 +1,13 @@
 /* Lists the tokens of a file, each with its line, column, kind and bytes, what the strings and names among them stand
- * for, and the values of the integers. */
+ * for, the values of the integers, and for a ( that stands in no form where its form ends. */
 #include "thallusweb.h"
 
 #include <stdio.h>
 #include <stdlib.h>
 #include <string.h>
 
-/* how many bytes of the text are looked at first, and how many tokens are listed at once */
-enum { WINDOW = 4096, CHUNK = 4096 };
+/* how many bytes of the text are looked at first for tokens and for a form, and how many tokens are listed at once */
+enum { WINDOW = 4096, FORM = 64, CHUNK = 4096 };
 
 /* The bytes of a file, which are one more than the longest text if there are that many. */
 static uint8_t *contents(const char *name, size_t *len) {
@@ -115,6 +115,29 @@ static void next_tokens(const uint8_t *text, size_t len, size_t at, uint8_t *lis
     }
 }
 
+/* Where the form at `at` ends, or by what it is refused; gives the position past it, or the text's end. The call is
+ * given a window here too, which grows until the form ends inside it. */
+static size_t print_form(const uint8_t *text, size_t len, size_t at, const uint32_t place[2]) {
+    uint64_t folded[THALLUSWEB_FOLD_WORDS];
+    for (size_t window = FORM;; window *= 2) {
+        size_t end = len - at <= window ? len : at + window;
+        while (end < len && (text[end] & 0xC0) == 0x80) {
+            end--;
+        }
+        thallusweb_fold(text + at, end - at, 0, 0, folded);
+        if (folded[0] == THALLUSWEB_TOLD) {
+            uint32_t past[2] = {place[0], place[1]};
+            thallusweb_move(past, text + at, folded[1]);
+            printf(" up to %u:%u", past[0], past[1]);
+            return at + folded[1];
+        }
+        if (end == len) {
+            printf(" refused by %llu", (unsigned long long)folded[1]);
+            return len;
+        }
+    }
+}
+
 int main(int argc, char **argv) {
     if (argc != 2) {
         fprintf(stderr, "usage: list FILE\n");
@@ -136,7 +159,7 @@ int main(int argc, char **argv) {
         free(text);
         return 1;
     }
-    size_t at = 0;
+    size_t at = 0, past = 0; /* the last form that stands in no other */
     for (;;) {
         next_tokens(text, len, at, list, listed);
         for (size_t i = 0; i < listed[5]; i++) {
@@ -150,6 +173,8 @@ int main(int argc, char **argv) {
                     print_value(text + at, reader_for(kind), kind, token_len);
                 } else if ((kind & THALLUSWEB_KIND_MASK) == THALLUSWEB_KIND_INTEGER) {
                     print_integer(text + at, kind, token_len);
+                } else if (kind == THALLUSWEB_KIND_LPAREN && at >= past) {
+                    past = print_form(text, len, at, place);
                 }
                 putchar('\n');
             }

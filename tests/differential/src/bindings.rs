@@ -2,6 +2,7 @@
 //! docs/RULES.md adds to the Rust is expected by its rule, as `compare.rs` and `reading.rs` expect it of the C calls.
 
 use crate::compare::{self, CANARY, MARGIN, shown};
+use crate::forms;
 use crate::integers;
 use crate::ours::{self as c, Found, Listed, Reading, Refused, Words};
 use crate::reading;
@@ -61,10 +62,12 @@ fn refused(error: &Error) -> Refused {
         Refusal::NotThatToken => (30, [0, 0]),
         Refusal::NotThatKind => (31, [0, 0]),
         Refusal::OutOfRange => (40, [0, 0]),
+        Refusal::TooDeep => (41, [0, 0]),
+        Refusal::Unclosed => (42, [0, 0]),
         ref other => panic!("bindings: {other:?} from a text"),
     };
     assert_eq!(error.refusal().number(), number, "bindings, the number of {error:?}");
-    assert_eq!(error.place().is_some(), number < 30, "bindings, whether {error:?} stands somewhere");
+    assert_eq!(error.place().is_none(), (30..=40).contains(&number), "bindings, whether {error:?} stands somewhere");
     let message = error.message();
     if (10..30).contains(&number) {
         let expected = oracle::numbers::message(number as u8, values.map(|value| value as u32));
@@ -116,6 +119,12 @@ pub fn values(text: &str, token: Words) -> u64 {
     assert_eq!(word(of.i32(text).map(i128::from), 32), word_32, "{}", asked());
     assert_eq!(word(of.i64(text).map(i128::from), 64), word_64, "{}", asked());
     4
+}
+
+/// The ends of forms at some positions. Answers how many answers there were.
+pub fn folds(text: &str, flag: bool, positions: impl Iterator<Item = usize>) -> u64 {
+    let asked = Asked { text, flag, lexer: lexers(text, flag)[0] };
+    positions.map(|position| asked.fold(position)).sum()
 }
 
 impl Asked<'_> {
@@ -206,7 +215,15 @@ impl Asked<'_> {
         }
     }
 
-    /// One token, the annotation and the place at a position, and every reader of the token.
+    /// The end of the form at a position.
+    fn fold(&self, position: usize) -> u64 {
+        let folded = self.lexer.fold(position).map(|end| end as u64).map_err(|error| refused(&error));
+        let expected = forms::expected(self.text.as_bytes(), self.flag, position);
+        assert_eq!(folded, expected, "{} at {position}", self.of("the form's end"));
+        1
+    }
+
+    /// One token, the annotation, the place and the form's end at a position, and every reader of the token.
     fn position(&self, position: usize) -> u64 {
         let text = self.text.as_bytes();
         let at = || format!("{} at {position}", self.of("one token, annotation or place"));
@@ -238,7 +255,7 @@ impl Asked<'_> {
             None => Err(Refused { number: 3, values: [0, 0], place: position as u64 }),
         };
         assert_eq!(place.map_err(|error| refused(&error)), expected, "{}", at());
-        readings + 3
+        readings + 3 + self.fold(position)
     }
 
     /// A listing: its report, every byte of the list, and the bytes around it.
@@ -314,6 +331,7 @@ pub fn limits() {
         let mut position = 3;
         assert_eq!((found(lexer.parse(&mut position)), position), (Found::Refused(long), 3));
         assert_eq!(found(lexer.annotation(3)), Found::Refused(long));
+        assert_eq!(lexer.fold(3).map_err(|error| refused(&error)), Err(long));
         assert_eq!(lexer.iter(3).next().map(|item| found(item.map(Some))), Some(Found::Refused(long)));
         let listed = lexer.list(3, 9, &mut [0; 12]);
         let ours::Stop::Error(error) = &listed.stop else { panic!("bindings: {listed:?}") };

@@ -1,6 +1,6 @@
 //! One text, asked of both sides in every way: at every position, with both flags, each alone in the settings word and beside
-//! ignored bits, listed with small and large budgets and lists; `reading.rs` asks the rest. What docs/RULES.md adds to the Rust,
-//! the refusals 1 to 4, is expected by its rule.
+//! ignored bits, listed with small and large budgets and lists; `reading.rs` and `forms.rs` ask the rest. What docs/RULES.md adds
+//! to the Rust, the refusals 1 to 4, is expected by its rule.
 
 use crate::ours::{self, Found, Listed, Refused, Stop};
 use oracle::listing::{self, RECORD};
@@ -30,6 +30,12 @@ pub struct Counts {
     pub values: u64,
     /// how often each refusal was the answer for one
     pub value_refusals: BTreeMap<u64, u64>,
+    /// texts that were asked for the ends of their forms alone
+    pub nests: u64,
+    /// positions that were asked for the end of a form
+    pub folds: u64,
+    /// how often each refusal was the answer for one
+    pub fold_refusals: BTreeMap<u64, u64>,
 }
 
 /// The bytes around a lent list, and what it holds before.
@@ -37,18 +43,18 @@ pub const MARGIN: usize = 16;
 pub const CANARY: u8 = 0xa5;
 
 /// Some of the ignored bits, at least one, by the text's number: the texts do not depend on them.
-fn ignored(number: u64) -> u32 {
+pub fn ignored(number: u64) -> u32 {
     let shift = ours::IGNORED.trailing_zeros();
     (1 + Texts::new(number).below((ours::IGNORED >> shift) as usize) as u32) << shift
 }
 
 /// The settings words that say a flag: its bit alone, and beside ignored ones.
-fn words(flag: bool, ignored: u32) -> [u32; 2] {
+pub fn words(flag: bool, ignored: u32) -> [u32; 2] {
     let alone = if flag { ours::ALLOW_CONFUSING } else { 0 };
     [alone, alone | ignored]
 }
 
-fn refused(number: u64, values: [u64; 2], place: usize) -> Refused {
+pub fn refused(number: u64, values: [u64; 2], place: usize) -> Refused {
     Refused { number, values, place: place as u64 }
 }
 
@@ -128,6 +134,9 @@ impl Counts {
             literals,
             values,
             value_refusals,
+            nests,
+            folds,
+            fold_refusals,
         } = other;
         self.texts += texts;
         self.tokens += tokens;
@@ -141,7 +150,13 @@ impl Counts {
         self.items += items;
         self.literals += literals;
         self.values += values;
-        for (sum, more) in [(&mut self.refusals, refusals), (&mut self.value_refusals, value_refusals)] {
+        self.nests += nests;
+        self.folds += folds;
+        for (sum, more) in [
+            (&mut self.refusals, refusals),
+            (&mut self.value_refusals, value_refusals),
+            (&mut self.fold_refusals, fold_refusals),
+        ] {
             for (number, count) in more {
                 *sum.entry(number).or_default() += count;
             }
@@ -158,6 +173,7 @@ impl Counts {
         for flag in [false, true] {
             for position in 0..bytes.len() + 3 {
                 self.token(bytes, flag, ignored, position);
+                self.fold(bytes, flag, ignored, position);
             }
             let start = chance.below(bytes.len() + 2);
             let budget = chance.below(5);

@@ -114,6 +114,14 @@ pub fn holds() {
     let out_of_range = Err(Refused { number: c::OUT_OF_RANGE, values: [0, 0], place: 0 });
     assert_eq!(ours::integer_32(b"4294967296", token("4294967296")), out_of_range, "the header's refusal of a value");
     assert_eq!(ours::message(c::OUT_OF_RANGE, [0, 0], &mut []), Err(c::NO_MESSAGE));
+    for (levels, folded) in [(c::LEVELS, Ok(2 * c::LEVELS)), (c::LEVELS + 1, Err((c::TOO_DEEP, c::LEVELS)))] {
+        let text = "(".repeat(levels as usize) + &")".repeat(levels as usize);
+        let answer = ours::fold(text.as_bytes(), 0, 0).map_err(|refused| (refused.number, refused.place));
+        assert_eq!(answer, folded, "the header's levels of {text}");
+    }
+    let unclosed = Err(Refused { number: c::UNCLOSED, values: [0, 0], place: 2 });
+    assert_eq!(ours::fold(b"(a", 0, 0), unclosed, "the header's refusal of a form that is open");
+    assert_eq!(thallusweb::lexer::Lexer::LEVELS as u64, c::LEVELS, "the bindings' levels");
     // two records, and a byte less
     for (room, stop) in [(2 * c::RECORD, Stop::End), (2 * c::RECORD - 1, Stop::Full)] {
         assert_eq!(ours::list(b"()", 0, 0, 9, &mut vec![0; room as usize]).stop, stop, "a list of {room} bytes");

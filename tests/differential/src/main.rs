@@ -2,6 +2,7 @@
 
 mod bindings;
 mod compare;
+mod forms;
 mod header;
 mod integers;
 mod ours;
@@ -19,10 +20,10 @@ differential: Thallusweb against the Rust original
 
   differential [--bytes N] [--symbols N] [--random N] [--seed S]
       --bytes N     every byte string of up to N bytes (default 2)
-      --symbols N   every text of up to N symbols of a telling alphabet, and every literal of an integer of up to N
-                    parts (default 4)
-      --random N    so many random texts, whole, cut and damaged, random byte strings, and literals of integers
-                    (default 100000)
+      --symbols N   every text of up to N symbols of a telling alphabet, every literal of an integer of up to N
+                    parts, and every nest of forms of up to N + 2 symbols (default 4)
+      --random N    so many random texts, whole, cut and damaged, random byte strings, and literals of integers,
+                    and a fifth as many nests of forms (default 100000)
       --seed S      of the random texts (default 1)
 ";
 
@@ -37,6 +38,9 @@ const MOST_OF_BINDINGS: usize = 3;
 
 /// One in so many random texts is followed by two long ones, of which more is alike than is looked at together.
 const LONG_ONES: usize = 5;
+
+/// So many random texts, or more, must have every answer for a form's end among them.
+const ENOUGH: u64 = 5_000;
 
 /// The texts are shared out in so many parts, each with random numbers of its own, and the threads take one after the other: what is compared
 /// does not depend on the machine.
@@ -119,6 +123,7 @@ fn share(options: &Options, which: u64) -> Counts {
         }
     }
     counts.literals((which, SHARES), options.symbols, options.random, options.seed);
+    counts.nests((which, SHARES), options.symbols, options.random, options.seed);
     counts
 }
 
@@ -132,6 +137,7 @@ fn main() -> ExitCode {
     header::holds();
     limits(&mut counts);
     integers::limits(&mut counts);
+    forms::limits();
     bindings::limits();
     let next = AtomicU64::new(0);
     let work = || {
@@ -158,8 +164,22 @@ fn main() -> ExitCode {
         began.elapsed().as_secs_f64()
     );
     println!("{} values of integers agree, of these tokens and of {} literals", counts.values, counts.literals);
+    let ends = counts.folds - counts.fold_refusals.values().sum::<u64>();
+    println!(
+        "{} answers for a form's end agree, {ends} of them an end, at positions of these texts and of {} nests",
+        counts.folds, counts.nests
+    );
     println!("{} answers of the Rust bindings agree", counts.items);
-    for (what, refusals) in [("tokens and readers", counts.refusals), ("values of integers", counts.value_refusals)] {
+    if options.random >= ENOUGH {
+        assert!(ends > 0, "no form ends");
+        let met = |number: &u64| counts.fold_refusals.contains_key(number);
+        assert!(forms::REFUSALS.iter().all(met), "of a form's end not all refusals: {:?}", counts.fold_refusals);
+    }
+    for (what, refusals) in [
+        ("tokens and readers", counts.refusals),
+        ("values of integers", counts.value_refusals),
+        ("ends of forms", counts.fold_refusals),
+    ] {
         let seen = refusals.iter().map(|(number, count)| format!("{number}: {count}"));
         println!("refusals of {what} by number: {}", seen.collect::<Vec<_>>().join(", "));
     }

@@ -122,6 +122,16 @@ pub fn list(text: &[u8], settings: u32, start: usize, budget: usize, list: &mut 
     Listed { stop, count, position }
 }
 
+/// The position past the form at a position.
+pub fn fold(text: &[u8], settings: u32, position: usize) -> Result<u64, Refused> {
+    let call = |out| unsafe { c::thallusweb_fold(text.as_ptr(), text.len(), settings, position, out) };
+    match words::<{ c::FOLD_WORDS as usize }>(call) {
+        [c::TOLD, end, 0, 0, 0] => Ok(end),
+        [c::REFUSED, number, place, first, second] => Err(Refused { number, values: [first, second], place }),
+        other => panic!("no form's end has the words {other:?}"),
+    }
+}
+
 pub fn read(text: &[u8], reader: u64, token: Words, buffer: &mut [u8]) -> Reading {
     let call = |out| unsafe {
         let (buffer, room) = (buffer.as_mut_ptr(), buffer.len());

@@ -1,8 +1,8 @@
 //! What the Rust original says of a text, in the numbers of docs/RULES.md.
 //!
 //! [`lexer`], [`parser`] and [`token`] are those of docs/src/src, unchanged; [`Error`] and [`annotation`] stand in for the
-//! rest of their crate. [`Oracle`] asks the lexer for one token, an annotation or a listing, and for what its readers make
-//! of a token; [`integers`] asks the parser for an integer's value.
+//! rest of their crate. [`Oracle`] asks the lexer for one token, an annotation or a listing, for the end of a form, and for
+//! what its readers make of a token; [`integers`] asks the parser for an integer's value.
 //!
 //! A position must stand between two characters of the text, or at its end: elsewhere the original panics, where
 //! rule 1 refuses by 3 and 4.
@@ -20,9 +20,11 @@ pub mod parser;
 #[path = "../../../docs/src/src/token.rs"]
 pub mod token;
 
+pub mod forms;
 pub mod integers;
 pub mod listing;
 pub mod literals;
+pub mod nests;
 pub mod numbers;
 pub mod places;
 pub mod readers;
@@ -80,6 +82,11 @@ impl Error {
 
     fn new(span: token::Span, message: String) -> Error {
         Error { place: span.offset, kind: ErrorKind::Parse(message) }
+    }
+
+    /// Where it stands, in bytes.
+    pub fn place(&self) -> usize {
+        self.place
     }
 }
 
