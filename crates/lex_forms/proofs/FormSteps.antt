@@ -16,7 +16,7 @@ use Rattle.wat.proofs.Unique.{lexed-one}
 use Rattle.wat_laws.proofs.Walks.{walked-start, walked-one, walked-then, walked-more}
 use Rattle.wat_forms.specs.declared.Folded.{Folded}
 use Rattle.wat_forms.specs.declared.Folded.the-variants as folded
-use Rattle.wat_forms.specs.Forms.{Opens, Closes, Forms, Form, Inside, Begun, deepest, Folds}
+use Rattle.wat_forms.specs.Forms.{Opens, Closes, Forms, Form, Inside, Begun, deepest, Halts, Folds}
 use Rattle.lex_forms.specs.Inner.{InnerFolds}
 
 -- what is one of these in its type is not what is none of them
@@ -176,7 +176,7 @@ module _ {σ : Settings} {text : List ℕ} {pos : ℕ} (s : Stands text pos) whe
   folds-form {n} {d} {r} l i e = go (subst (λ (j : ℕ). InnerFolds σ text (pos + n) j r) e i)
     where
       go : {r : Folded} → InnerFolds σ text (pos + n) (deepest - 1) r → Folds σ text pos r
-      go (InnerFolds.past w f c) = Folds.past s (opening-walked s l w) (Form.form Opens.opens f c)
-      go (InnerFolds.fault w i x) = Folds.fault s (opening-walked s l w) (Begun.begun Opens.opens i) x
-      go (InnerFolds.too-deep w i x) = Folds.too-deep s (opening-walked s l w) (Begun.begun Opens.opens i) x
-      go (InnerFolds.left-open w i q) = Folds.left-open s (opening-walked s l w) (Begun.begun Opens.opens i) q
+      go (InnerFolds.past w f c) = Folds.walks s (opening-walked s l w) (Halts.past (Form.form Opens.opens f c))
+      go (InnerFolds.fault w i x) = Folds.walks s (opening-walked s l w) (Halts.fault (Begun.begun Opens.opens i) x)
+      go (InnerFolds.too-deep w i x) = Folds.walks s (opening-walked s l w) (Halts.too-deep (Begun.begun Opens.opens i) x)
+      go (InnerFolds.left-open w i q) = Folds.walks s (opening-walked s l w) (Halts.left-open (Begun.begun Opens.opens i) q)

@@ -7,7 +7,7 @@ use mathlib.Core.List.{List, [], _++_}
 use lib.ListN.{length, take, drop, getD}
 use denote.Ref.{RefT, ptr, now}
 use Rattle.wat.specs.declared.{Answer.Answer, TokenKind.TokenKind, Checked.Checked, Found.Found, Parsed.Parsed, Listed.Listed}
-use Rattle.wat.specs.declared.{Refusal.Refusal, Token.Token, Settings.Settings, LexError.LexError}
+use Rattle.wat.specs.declared.{Refusal.Refusal, Token.Token, Settings.Settings}
 use Rattle.wat.specs.declared.{Fault.Fault, LexError.the-variants.UnexpectedEof}
 use Rattle.wat.specs.declared.Answer.the-variants as answer
 use Rattle.wat.specs.declared.Stop.the-variants as stop
@@ -19,7 +19,7 @@ use Rattle.place.specs.declared.{Place.Place, Moved.Moved}
 use Rattle.wat.specs.Settings.{lenient}
 use Rattle.wat.specs.Utf8.{WellFormed, Says}
 use Rattle.wat.specs.Tokens.{Tok}
-use Rattle.wat.specs.Lexing.{Longest, Lexed}
+use Rattle.wat.specs.Lexing.{Lexed}
 use Rattle.wat.specs.Calls.{Stands, Parses, Annotates, at}
 use Rattle.wat.specs.Division.{Piece, lengths, Divided, Walked, recordSize, records, Listing}
 use Rattle.wat.specs.LexModel.{lex}

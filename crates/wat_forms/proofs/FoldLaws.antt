@@ -5,18 +5,16 @@ use mathlib.Core.Logic.{_⊎_, inl, inr}
 use mathlib.Core.List.{List, [], _∷_, _++_, append-nil}
 use native.Mathlib.Omega.{arith}
 use lib.ListN.{length, drop, drop-of-length-le}
-use Rattle.wat.specs.declared.{Settings.Settings, Fault.Fault, Refusal.Refusal}
+use Rattle.wat.specs.declared.Settings.{Settings}
 use Rattle.wat.specs.declared.TokenKind.the-variants as kind
-use Rattle.wat.specs.declared.Refusal.the-variants.{Lexical, NotThatKind}
 use Rattle.wat.specs.declared.Answer.the-variants as answer
 use Rattle.wat_forms.specs.declared.Folded.{Folded}
-use Rattle.wat_forms.specs.declared.Folded.the-variants as folded
-use Rattle.wat.specs.{Lexing.Lexed, Calls.Stands, Calls.Rejected, Division.Piece, Division.lengths, Division.Divided, Division.Walked}
+use Rattle.wat.specs.{Lexing.Lexed, Division.Piece, Division.lengths, Division.Divided, Division.Walked}
 use Rattle.wat.proofs.Basics.{differ}
 use Rattle.wat.proofs.Unique.{lexed-one}
 use Rattle.wat_laws.proofs.OneCall.{rejected-one, stands-or-rejected}
 use Rattle.wat_laws.proofs.Divisions.{divided-one}
-use Rattle.wat_forms.specs.Forms.{deepest, opens, Form, Begun, Folds}
+use Rattle.wat_forms.specs.Forms.{deepest, opens, Form, Begun, Halts, Folds}
 use Rattle.wat_forms.proofs.Sides.{Ran, closed, stuck, still, run, top, form-top, begun-top}
 
 -- ---- two walks from one place: one goes on from where the other ends
@@ -40,15 +38,6 @@ divided-further {σ} {s} {rest} {rest′} (Divided.more {t = t} {ts = ts} l d) (
     go (inr (vs, r, e, x)) = inr (vs, r, cc (same, e), x)
 
 -- ---- one answer
-
--- why nothing is passed behind the tokens ts, which go up to `at`, and the answer
-data Halts (σ : Settings) (text : List ℕ) (ts : List Piece) (at : ℕ) : Folded → Type 0 where
-  past : Form deepest ts → Halts σ text ts at (folded.Past at)
-  fault : {e : ℕ} {f : Fault} → Begun deepest e ts → Lexed σ (drop at text) (answer.Fault f)
-      → Halts σ text ts at (folded.Refused (Lexical (f .error)) (at + f .place))
-  too-deep : {n : ℕ} → Begun deepest 0 ts → Lexed σ (drop at text) (answer.Token kind.LParen n)
-      → Halts σ text ts at (folded.TooDeep at)
-  left-open : {e : ℕ} → Begun deepest e ts → at ≡ length text → Halts σ text ts at (folded.Unclosed at)
 
 -- counted from the first token on, the tokens are a form and nothing else, or a form that is begun
 abbrev Complete : Ran → Type 0
@@ -121,56 +110,29 @@ module _ {σ : Settings} {text : List ℕ} where
   halts-one {at = at} (Halts.left-open b e) (Halts.too-deep c m) = let z = lexed-one m (end-lexed text at e) in differ (cc)
   halts-one (Halts.left-open b e) (Halts.left-open c f) = refl
 
--- tokens are passed, and then comes the answer
-record Walks (σ : Settings) (text : List ℕ) (pos : ℕ) (a : Folded) : Type 0 where
-  tokens : List Piece
-  at : ℕ
-  walked : Walked σ text pos at tokens
-  halts : Halts σ text tokens at a
-
--- a refusal, no opening, or tokens are passed
-data Cases (σ : Settings) (text : List ℕ) (pos : ℕ) : Folded → Type 0 where
-  rejected : {r : Refusal} {p : ℕ} → Rejected text pos r p → Cases σ text pos (folded.Refused r p)
-  elsewhere : Stands text pos → ((n : ℕ) → Lexed σ (drop pos text) (answer.Token kind.LParen n) → ⊥)
-      → Cases σ text pos (folded.Refused NotThatKind 0)
-  walks : {a : Folded} → Stands text pos → Walks σ text pos a → Cases σ text pos a
-
 module _ {σ : Settings} {text : List ℕ} {pos : ℕ} where
-  walks-on : {a b : Folded} (w : Walks σ text pos a) (v : Walks σ text pos b)
-      → Further σ (drop (w .at) text) (w .tokens) (v .tokens) → a ≡ b
-  walks-on {a} {b} w v ([], r, e, x) =
-      let same : w .tokens ≡ v .tokens = sym (e ∙ append-nil (w .tokens)) in
-      let here : w .at ≡ v .at =
-      w .walked .place ∙ ap (λ (ts : List Piece). pos + lengths ts) same ∙ sym (v .walked .place) in
-      halts-one (w .halts) (rw (same, here) (v .halts))
-  walks-on {a} {b} w v (z ∷ zs, r, e, Divided.more l d) =
-      absurd (halts-here (w .halts) z zs l (subst (λ (ts : List Piece). Complete (top deepest ts)) e (halts-complete (v .halts))))
+  -- a walk, and one that goes on from where it ends
+  walks-on : {ts us : List Piece} {at to : ℕ} {a b : Folded} → Walked σ text pos at ts → Halts σ text ts at a
+      → Walked σ text pos to us → Halts σ text us to b → Further σ (drop at text) ts us → a ≡ b
+  walks-on {ts} {us} {at} {to} w h v k ([], r, e, x) =
+      let same : ts ≡ us = sym (e ∙ append-nil ts) in
+      let here : at ≡ to = w .place ∙ ap (λ (zs : List Piece). pos + lengths zs) same ∙ sym (v .place) in
+      halts-one h (rw (same, here) k)
+  walks-on w h v k (z ∷ zs, r, e, Divided.more l d) =
+      absurd (halts-here h z zs l (subst (λ (ts : List Piece). Complete (top deepest ts)) e (halts-complete k)))
 
-  walks-one : {a b : Folded} → Walks σ text pos a → Walks σ text pos b → a ≡ b
-  walks-one {a} {b} w v = go (divided-further (w .walked .divided) (v .walked .divided))
+  pub folds-one : {a b : Folded} → Folds σ text pos a → Folds σ text pos b → a ≡ b
+  folds-one (Folds.rejected t) (Folds.rejected u) = let z = rejected-one t u in cc
+  folds-one (Folds.rejected t) (Folds.elsewhere s n) = absurd (stands-or-rejected s t)
+  folds-one (Folds.rejected t) (Folds.walks s w h) = absurd (stands-or-rejected s t)
+  folds-one (Folds.elsewhere s n) (Folds.rejected t) = absurd (stands-or-rejected s t)
+  folds-one (Folds.elsewhere s n) (Folds.elsewhere t m) = refl
+  folds-one (Folds.elsewhere s n) (Folds.walks t w h) = let o = halts-opens h (w .divided) in absurd (n (o .0) (o .1))
+  folds-one (Folds.walks s w h) (Folds.rejected t) = absurd (stands-or-rejected s t)
+  folds-one (Folds.walks t w h) (Folds.elsewhere s n) = let o = halts-opens h (w .divided) in absurd (n (o .0) (o .1))
+  folds-one {a} {b} (Folds.walks {ts = ts} {at = at} s w h) (Folds.walks {ts = us} {at = to} t v k) =
+      go (divided-further (w .divided) (v .divided))
     where
-      go : Further σ (drop (w .at) text) (w .tokens) (v .tokens) ⊎ Further σ (drop (v .at) text) (v .tokens) (w .tokens) → a ≡ b
-      go (inl f) = walks-on w v f
-      go (inr f) = sym (walks-on v w f)
-
-  cases : {a : Folded} → Folds σ text pos a → Cases σ text pos a
-  cases (Folds.rejected t) = Cases.rejected t
-  cases (Folds.elsewhere s n) = Cases.elsewhere s n
-  cases (Folds.past s w f) = Cases.walks s (record { tokens = _; at = _; walked = w; halts = Halts.past f })
-  cases (Folds.fault s w b l) = Cases.walks s (record { tokens = _; at = _; walked = w; halts = Halts.fault b l })
-  cases (Folds.too-deep s w b l) = Cases.walks s (record { tokens = _; at = _; walked = w; halts = Halts.too-deep b l })
-  cases (Folds.left-open s w b e) = Cases.walks s (record { tokens = _; at = _; walked = w; halts = Halts.left-open b e })
-
-  cases-one : {a b : Folded} → Cases σ text pos a → Cases σ text pos b → a ≡ b
-  cases-one (Cases.rejected t) (Cases.rejected u) = let z = rejected-one t u in cc
-  cases-one (Cases.rejected t) (Cases.elsewhere s n) = absurd (stands-or-rejected s t)
-  cases-one (Cases.rejected t) (Cases.walks s w) = absurd (stands-or-rejected s t)
-  cases-one (Cases.elsewhere s n) (Cases.rejected t) = absurd (stands-or-rejected s t)
-  cases-one (Cases.elsewhere s n) (Cases.elsewhere t m) = refl
-  cases-one (Cases.elsewhere s n) (Cases.walks t w) = let o = halts-opens (w .halts) (w .walked .divided) in absurd (n (o .0) (o .1))
-  cases-one (Cases.walks s w) (Cases.rejected t) = absurd (stands-or-rejected s t)
-  cases-one (Cases.walks t w) (Cases.elsewhere s n) = let o = halts-opens (w .halts) (w .walked .divided) in absurd (n (o .0) (o .1))
-  cases-one (Cases.walks s w) (Cases.walks t v) = walks-one w v
-
-pub folds-one : {σ : Settings} {text : List ℕ} {pos : ℕ} {a b : Folded} → Folds σ text pos a → Folds σ text pos b → a ≡ b
-folds-one f g = cases-one (cases f) (cases g)
+      go : Further σ (drop at text) ts us ⊎ Further σ (drop to text) us ts → a ≡ b
+      go (inl f) = walks-on w h v k f
+      go (inr f) = sym (walks-on v k w h f)

@@ -20,7 +20,7 @@ use Rattle.wat_laws.proofs.WalkParts.{walked-cut}
 use Rattle.wat_laws.proofs.Tails.{tail-stands, tail-lexed, tail-walked}
 use Rattle.wat_laws.proofs.Slices.{behind}
 use Rattle.wat_laws.proofs.WindowCalls.{window-stands, window-left, lexed-at, window-walked, window-walked-last}
-use Rattle.wat_forms.specs.Forms.{closes, Form, Folds}
+use Rattle.wat_forms.specs.Forms.{closes, Form, Halts, Folds}
 use Rattle.wat_forms.specs.Windows.{DecidedFold, MovedFold}
 use Rattle.wat_forms.proofs.FewBytes.{opens-by-one, close-window, open-front, fault-near}
 
@@ -52,15 +52,16 @@ module _ (front rest : List ℕ) (whole : Text (front ++ rest)) where
       let same = drop-append-le pos front rest (s .within) in
       Folds.elsewhere (window-stands front rest whole s)
       (λ m l. n 1 (open-front (drop pos front) rest (s .between) (window-left front rest whole s) long (rw same at l)))
-  window-folds DecidedFold.past (Folds.past s w f) = Folds.past (window-stands front rest whole s) (window-past w f) f
-  window-folds (DecidedFold.fault n c h) (Folds.fault {at = at} s w b l) =
+  window-folds DecidedFold.past (Folds.walks s w (Halts.past f)) =
+      Folds.walks (window-stands front rest whole s) (window-past w f) (Halts.past f)
+  window-folds (DecidedFold.fault n c h) (Folds.walks {at = at} s w (Halts.fault b l)) =
       let near = fault-near l c in
-      Folds.fault (window-stands front rest whole s) (window-walked front rest whole w (omega arith)) b
-      (lexed-at front rest whole (w .stands) l (omega (arith, length-drop at front), n))
-  window-folds (DecidedFold.too-deep h) (Folds.too-deep {at = at} s w b l) =
+      Folds.walks (window-stands front rest whole s) (window-walked front rest whole w (omega arith))
+      (Halts.fault b (lexed-at front rest whole (w .stands) l (omega (arith, length-drop at front), n)))
+  window-folds (DecidedFold.too-deep h) (Folds.walks {at = at} s w (Halts.too-deep b l)) =
       let one = opens-by-one l in
-      Folds.too-deep (window-stands front rest whole s) (window-walked front rest whole w (omega arith)) b
-      (lexed-at front rest whole (w .stands) l (omega (arith, length-drop at front)))
+      Folds.walks (window-stands front rest whole s) (window-walked front rest whole w (omega arith))
+      (Halts.too-deep b (lexed-at front rest whole (w .stands) l (omega (arith, length-drop at front))))
 
 -- ---- a tail of a text
 
@@ -72,24 +73,27 @@ module _ (before tail : List ℕ) (whole : Text (before ++ tail)) where
       → Walked σ (before ++ tail) (length before + start) (length before + end) ts
   onward w = tail-walked before tail whole w
 
+  tail-halts : {σ : Settings} {ts : List Piece} {at : ℕ} {a : Folded} → Halts σ tail ts at a
+      → (b : Folded) × MovedFold (length before) a b × Halts σ (before ++ tail) ts (length before + at) b
+  tail-halts (Halts.past f) = (_, MovedFold.past, Halts.past f)
+  tail-halts {σ} {ts} {at} (Halts.fault {f = f} b l) =
+      let n = length before in
+      let e : n + at + f .place ≡ n + (at + f .place) = omega arith in
+      let z : Halts σ (before ++ tail) ts (n + at) (folded.Refused (Lexical (f .error)) (n + at + f .place)) =
+      Halts.fault b (tail-lexed before tail whole at l) in
+      (_, MovedFold.fault, rw e at z)
+  tail-halts {at = at} (Halts.too-deep b l) = (_, MovedFold.too-deep, Halts.too-deep b (tail-lexed before tail whole at l))
+  tail-halts (Halts.left-open b e) =
+      let end = length-append before tail in
+      (_, MovedFold.unclosed, Halts.left-open b (omega arith))
+
   -- each answer but 1 to 4
   pub tail-folds : {σ : Settings} {pos : ℕ} {a : Folded} → Stands tail pos → Folds σ tail pos a
       → (b : Folded) × MovedFold (length before) a b × Folds σ (before ++ tail) (length before + pos) b
   tail-folds s (Folds.rejected t) = absurd (stands-or-rejected s t)
   tail-folds {pos = pos} s (Folds.elsewhere s′ n) =
       (_, MovedFold.no-form, Folds.elsewhere (there s) (λ m l. n m (rw (drop-append-add before tail pos) at l)))
-  tail-folds s (Folds.past s′ w f) = (_, MovedFold.past, Folds.past (there s) (onward w) f)
-  tail-folds {σ} {pos} s (Folds.fault {at = at} {f = f} s′ w b l) =
-      let n = length before in
-      let e : n + at + f .place ≡ n + (at + f .place) = omega arith in
-      let z : Folds σ (before ++ tail) (n + pos) (folded.Refused (Lexical (f .error)) (n + at + f .place)) =
-      Folds.fault (there s) (onward w) b (tail-lexed before tail whole at l) in
-      (_, MovedFold.fault, rw e at z)
-  tail-folds s (Folds.too-deep {at = at} s′ w b l) =
-      (_, MovedFold.too-deep, Folds.too-deep (there s) (onward w) b (tail-lexed before tail whole at l))
-  tail-folds s (Folds.left-open s′ w b e) =
-      let end = length-append before tail in
-      (_, MovedFold.unclosed, Folds.left-open (there s) (onward w) b (omega arith))
+  tail-folds s (Folds.walks s′ w h) = let m = tail-halts h in (m .0, m .1, Folds.walks (there s) (onward w) (m .2))
 
 -- ---- a piece anywhere in a text
 
@@ -101,7 +105,7 @@ module _ (before piece rest : List ℕ) (begins : Stands (before ++ (piece ++ re
       tail-folds before (piece ++ rest) (begins .sound) (window-stands piece rest here (stands d f)) (window-folds piece rest here d f)
     where
       stands : {a : Folded} → DecidedFold piece pos a → Folds σ piece pos a → Stands piece pos
-      stands DecidedFold.past (Folds.past s w f) = s
+      stands DecidedFold.past (Folds.walks s w h) = s
       stands (DecidedFold.no-form h) (Folds.elsewhere s n) = s
-      stands (DecidedFold.fault n c h) (Folds.fault s w b l) = s
-      stands (DecidedFold.too-deep h) (Folds.too-deep s w b l) = s
+      stands (DecidedFold.fault n c h) (Folds.walks s w k) = s
+      stands (DecidedFold.too-deep h) (Folds.walks s w k) = s

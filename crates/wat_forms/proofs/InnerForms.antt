@@ -17,7 +17,7 @@ use Rattle.wat_laws.proofs.Answers.{lexed-lenient}
 use Rattle.wat_laws.proofs.Divisions.{divided-some, lengths-append, ended-one, ended-nil, ended-fault}
 use Rattle.wat_laws.proofs.{OneCall.stands-or-rejected, Walks.walked-then}
 use Rattle.wat_laws.proofs.WalkParts.{walked-cut}
-use Rattle.wat_forms.specs.Forms.{deepest, Opens, opens, Form, Folds}
+use Rattle.wat_forms.specs.Forms.{deepest, Opens, opens, Form, Halts, Folds}
 use Rattle.wat_forms.specs.Balance.{up, down, openings, closings, Balanced, WholeForm, Structural}
 use Rattle.wat_forms.proofs.Balances.{count-append, form-balanced, Within, form-holds}
 use Rattle.wat_forms.proofs.FoldLaws.{Further, divided-further}
@@ -58,7 +58,7 @@ module _ {σ : Settings} {text : List ℕ} {start end : ℕ} {ts : List Piece} (
       let c = walked-cut (h .form) (h .rest) both in
       let long = c .1 .place in (
         at + lengths (h .form),
-        Folds.past (u .stands) (c .0) (h .is),
+        Folds.walks (u .stands) (c .0) (Halts.past (h .is)),
         omega arith,
         λ i. inside h long i (some-bytes (c .1 .divided)),
       )
@@ -90,7 +90,7 @@ module _ {σ : Settings} {text : List ℕ} {start end : ℕ} {ts : List Piece} (
 
 pub folds-whole : {σ : Settings} {text : List ℕ} {start end : ℕ} → Folds σ text start (folded.Past end)
     → WholeForm σ text start end
-folds-whole (Folds.past {ts = ts} s w f) =
+folds-whole (Folds.walks {ts = ts} s w (Halts.past f)) =
     record { tokens = ts; walked = w; form = f; balanced = form-balanced f; inner = inner w f }
 
 divided-lenient : {σ : Settings} {s rest : List ℕ} {ts : List Piece} → WellFormed s → Divided σ s ts rest
@@ -101,18 +101,19 @@ divided-lenient g (Divided.more (Lexed.token l f) d) =
 
 pub folds-lenient : {σ : Settings} {text : List ℕ} {start end : ℕ} → Folds σ text start (folded.Past end)
     → Folds lenient text start (folded.Past end)
-folds-lenient (Folds.past s w f) =
-    Folds.past s (record { divided = divided-lenient (s .between) (w .divided); place = w .place; stands = w .stands }) f
+folds-lenient (Folds.walks s w (Halts.past f)) =
+    let d = divided-lenient (s .between) (w .divided) in
+    Folds.walks s (record { divided = d; place = w .place; stands = w .stands }) (Halts.past f)
 
 -- a place between tokens of a text that is divided to its end
 pub folds-listed : {σ : Settings} {text : List ℕ} {pos : ℕ} {ts us : List Piece} {a : Folded} → Divided σ text ts []
     → Walked σ text 0 pos us → Folds σ text pos a → Structural a
 folds-listed d u (Folds.rejected t) = absurd (stands-or-rejected (u .stands) t)
 folds-listed d u (Folds.elsewhere s n) = Structural.no-form
-folds-listed d u (Folds.past s w f) = Structural.past
-folds-listed {σ} {text} d u (Folds.fault s w b l) =
+folds-listed d u (Folds.walks s w (Halts.past f)) = Structural.past
+folds-listed {σ} {text} d u (Folds.walks s w (Halts.fault b l)) =
     let e = ended-one (walked-then σ text u w .divided) (ended-fault l) d ended-nil .1 in
     let z = lexed-one l (Lexed.end e) in
     differ (cc)
-folds-listed d u (Folds.too-deep s w b l) = Structural.too-deep
-folds-listed d u (Folds.left-open s w b e) = Structural.unclosed
+folds-listed d u (Folds.walks s w (Halts.too-deep b l)) = Structural.too-deep
+folds-listed d u (Folds.walks s w (Halts.left-open b e)) = Structural.unclosed

@@ -57,6 +57,18 @@ tooDeep = 41
 abbrev pub unclosed : ℕ
 unclosed = 42
 
+-- why folding that has walked over the tokens `ts` to `at` answers what it does there: they are a form, or one is begun
+pub data Halts (σ : Settings) (text : List ℕ) (ts : List Piece) (at : ℕ) : Folded → Type 0 where
+  past : Form deepest ts → Halts σ text ts at (folded.Past at)
+  -- 10 to 21: a form is begun, and then comes an error
+  fault : {e : ℕ} {f : Fault} → Begun deepest e ts → Lexed σ (drop at text) (answer.Fault f)
+      → Halts σ text ts at (folded.Refused (Lexical (f .error)) (at + f .place))
+  -- 41: a form is begun, and then comes an opening for which no level is left
+  too-deep : {n : ℕ} → Begun deepest 0 ts → Lexed σ (drop at text) (answer.Token kind.LParen n)
+      → Halts σ text ts at (folded.TooDeep at)
+  -- 42: a form is begun, and then the text ends
+  left-open : {e : ℕ} → Begun deepest e ts → at ≡ length text → Halts σ text ts at (folded.Unclosed at)
+
 -- `fold`, for a position: what comes first in reading order. Of `(a (b))`, from 0, the tokens up to 7 are a form, so
 -- the answer is 7; of `(a (b)`, from 0, all tokens are a form that is begun, and there the text ends: 42, at 6
 pub data Folds (σ : Settings) (text : List ℕ) (pos : ℕ) : Folded → Type 0 where
@@ -65,16 +77,5 @@ pub data Folds (σ : Settings) (text : List ℕ) (pos : ℕ) : Folded → Type 0
   -- 31, which has no place: no form begins there, be it another token, an error or the end
   elsewhere : Stands text pos → ((n : ℕ) → Lexed σ (drop pos text) (answer.Token kind.LParen n) → ⊥)
       → Folds σ text pos (folded.Refused NotThatKind 0)
-  -- the tokens from there on are a form
-  past : {ts : List Piece} {at : ℕ} → Stands text pos → Walked σ text pos at ts → Form deepest ts
-      → Folds σ text pos (folded.Past at)
-  -- 10 to 21: a form is begun, and then comes an error
-  fault : {e : ℕ} {ts : List Piece} {at : ℕ} {f : Fault} → Stands text pos → Walked σ text pos at ts
-      → Begun deepest e ts → Lexed σ (drop at text) (answer.Fault f)
-      → Folds σ text pos (folded.Refused (Lexical (f .error)) (at + f .place))
-  -- 41: a form is begun, and then comes an opening for which no level is left
-  too-deep : {ts : List Piece} {at n : ℕ} → Stands text pos → Walked σ text pos at ts → Begun deepest 0 ts
-      → Lexed σ (drop at text) (answer.Token kind.LParen n) → Folds σ text pos (folded.TooDeep at)
-  -- 42: a form is begun, and then the text ends
-  left-open : {e : ℕ} {ts : List Piece} {at : ℕ} → Stands text pos → Walked σ text pos at ts → Begun deepest e ts
-      → at ≡ length text → Folds σ text pos (folded.Unclosed at)
+  walks : {ts : List Piece} {at : ℕ} {a : Folded} → Stands text pos → Walked σ text pos at ts → Halts σ text ts at a
+      → Folds σ text pos a
