@@ -36,7 +36,7 @@ extern "C" {
 
 /* The number of this header's words, constants and prototypes. It rises whenever one of them changes, comes or goes: a
  * library belongs to this header where thallusweb_version returns THALLUSWEB_VERSION. */
-#define THALLUSWEB_VERSION 3
+#define THALLUSWEB_VERSION 4
 uint32_t thallusweb_version(void);
 
 /* The longest text that is lexed, the bytes of a token's record in a list, a buffer that holds every message, and how
@@ -272,11 +272,13 @@ void thallusweb_integer_64(const uint8_t *text, size_t len, const uint64_t token
 void thallusweb_message(uint64_t number, uint64_t first, uint64_t second, uint8_t *buffer, size_t buffer_len,
                         uint64_t out[5]);
 
-/* The place counter: line and column, each from 1, so that a new one is { 1, 1 }. It is moved over bytes, such as a
- * token's: a LF (the byte 10) ends a line, and every other byte, a CR too, is a column. Returns false, and leaves the
- * counter as it was, where a line or column would pass 4,294,967,295 at any byte (35).
+/* The place counter: line and column, each from 1, and 1 if the last byte passed is a CR, else 0, so that a new one is
+ * { 1, 1, 0 }. It is moved over bytes, such as a token's. A line ends at LF (the byte 10), at CR (13), and at CR LF
+ * together, also where the two fall to two moves. After either byte the column is 1; every other byte is a column. Any
+ * third word but 0 counts as 1; a move, over no byte too, leaves 0 or 1 there. Returns false, and leaves all words as
+ * they were, where a line or column would pass 4,294,967,295 at any byte (35).
  * Cost: the bytes. */
-bool thallusweb_move(uint32_t place[2], const uint8_t *bytes, size_t len);
+bool thallusweb_move(uint32_t place[3], const uint8_t *bytes, size_t len);
 
 #ifdef __cplusplus
 }

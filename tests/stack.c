@@ -48,7 +48,7 @@ static void fold(uint64_t refusal) {
 
 static void ask(void) {
     uint64_t out[7], part[3];
-    uint32_t place[2] = {1, 1};
+    uint32_t place[3] = {1, 1, 0};
     thallusweb_utf8_check(text, most, out);
     thallusweb_annotation(text, most, 0, 0, out);
     thallusweb_list(text, most, 0, 0, SIZE_MAX, buffer, 6 * most, out);

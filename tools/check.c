@@ -39,7 +39,7 @@ static bool contents(const char *file, const char *name, uint8_t *text, size_t *
 
 /* Says what is refused, by the refusal's words, and at which byte. Always false, since the text does not pass. */
 static bool refused(const char *name, const uint8_t *text, size_t at, const uint64_t refusal[5]) {
-    uint32_t place[2] = {1, 1};
+    uint32_t place[3] = {1, 1, 0};
     thallusweb_move(place, text, at);
     char message[THALLUSWEB_MESSAGE];
     uint64_t told[5];

@@ -31,7 +31,7 @@ static uint8_t *contents(const char *name, size_t *len) {
 }
 
 /* A refusal's message, or its number where it has none of its own. */
-static void complain(const char *name, const uint32_t place[2], const uint64_t refusal[5]) {
+static void complain(const char *name, const uint32_t place[3], const uint64_t refusal[5]) {
     uint8_t message[THALLUSWEB_MESSAGE];
     uint64_t told[THALLUSWEB_MESSAGE_WORDS];
     thallusweb_message(refusal[1], refusal[3], refusal[4], message, sizeof message, told);
@@ -117,7 +117,7 @@ static void next_tokens(const uint8_t *text, size_t len, size_t at, uint8_t *lis
 
 /* Where the form at `at` ends, or by what it is refused; gives the position past it, or the text's end. The call is
  * given a window here too, which grows until the form ends inside it. */
-static size_t print_form(const uint8_t *text, size_t len, size_t at, const uint32_t place[2]) {
+static size_t print_form(const uint8_t *text, size_t len, size_t at, const uint32_t place[3]) {
     uint64_t folded[THALLUSWEB_FOLD_WORDS];
     for (size_t window = FORM;; window *= 2) {
         size_t end = len - at <= window ? len : at + window;
@@ -126,7 +126,7 @@ static size_t print_form(const uint8_t *text, size_t len, size_t at, const uint3
         }
         thallusweb_fold(text + at, end - at, 0, 0, folded);
         if (folded[0] == THALLUSWEB_TOLD) {
-            uint32_t past[2] = {place[0], place[1]};
+            uint32_t past[3] = {place[0], place[1], place[2]};
             thallusweb_move(past, text + at, folded[1]);
             printf(" up to %u:%u", past[0], past[1]);
             return at + folded[1];
@@ -149,7 +149,7 @@ int main(int argc, char **argv) {
     }
     size_t len;
     uint8_t *text = contents(argv[1], &len);
-    uint32_t place[2] = {1, 1};
+    uint32_t place[3] = {1, 1, 0};
     uint64_t listed[THALLUSWEB_LIST_WORDS];
     static uint8_t list[THALLUSWEB_RECORD * CHUNK];
     /* with a budget of 0 this says whether the text is refused, by 1 or 2 */

@@ -18,7 +18,7 @@ var readers = map[uint16]C.uint64_t{6: C.THALLUSWEB_STRING, 7: C.THALLUSWEB_ID, 
 func room(n int) []byte               { return make([]byte, n, n+1) }
 func pointer(b []byte) *C.uint8_t     { return (*C.uint8_t)(unsafe.Pointer(&b[:1][0])) }
 func length(b []byte) C.size_t        { return C.size_t(len(b)) }
-func move(p *[2]C.uint32_t, b []byte) { C.thallusweb_move(&p[0], pointer(b), length(b)) }
+func move(p *[3]C.uint32_t, b []byte) { C.thallusweb_move(&p[0], pointer(b), length(b)) }
 func isInteger(kind uint16) bool      { return kind&C.THALLUSWEB_KIND_MASK == C.THALLUSWEB_KIND_INTEGER }
 
 // value is what a token stands for, given just its own bytes, an integer as an int64; nothing if it is refused.
@@ -51,7 +51,7 @@ func main() {
 		fmt.Fprintln(os.Stderr, err)
 		os.Exit(1)
 	}
-	text, list, place, at := append(room(0), file...), room(C.THALLUSWEB_RECORD*len(file)), [2]C.uint32_t{1, 1}, 0
+	text, list, place, at := append(room(0), file...), room(C.THALLUSWEB_RECORD*len(file)), [3]C.uint32_t{1, 1, 0}, 0
 	var listed [7]C.uint64_t
 	C.thallusweb_list(pointer(text), length(text), 0, 0, length(text), pointer(list), length(list), &listed[0])
 	for ; listed[5] > 0; listed[5]-- {

@@ -31,7 +31,8 @@ def value(own, kind):
 def main(name):
     with open(name, "rb") as file:
         text = file.read()
-    records, listed, place, at = ctypes.create_string_buffer(RECORD * len(text) + 1), (word * 7)(), (small * 2)(1, 1), 0
+    records, listed, at = ctypes.create_string_buffer(RECORD * len(text) + 1), (word * 7)(), 0
+    place = (small * 3)(1, 1, 0)  # line, column, and whether the last byte passed is a CR
     lib.thallusweb_list(text, len(text), 0, 0, len(text), records, RECORD * len(text), listed)
     for i in range(listed[5]):
         length, kind = struct.unpack_from("<IH", records, RECORD * i)

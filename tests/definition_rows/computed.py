@@ -1,5 +1,6 @@
 """Rows that the prover computes: what the original answers, and the two sides of the equation that says so."""
 import dataclasses
+import random
 import re
 
 from .terms import ERRORS, FULL, KINDS, REFUSALS, applied, error, flag, float_kind, integer_kind, kind, listed
@@ -90,13 +91,35 @@ def message_row(line):
     return Row(line, answer, left, f"(Refused refusal.{name}, replicate {room} 238)")
 
 
+def place(line, column, last):
+    return f"record {{ line = {line}; column = {column}; «after_cr» = {flag(last == 'cr')} }}"
+
+
 def place_row(line):
-    line_from, column_from, text, said, *moved = line.split()
-    text = from_hexadecimal(text)
-    to = moved or [line_from, column_from]
-    left = f"moved (record {{ line = {line_from}; column = {column_from} }}) {listed(text)}"
-    right = f"record {{ ok = {flag(moved)}; place = record {{ line = {to[0]}; column = {to[1]} }} }}"
-    return Row(line, "a place" if moved else "35, past the limit", left, right, shown=repr(text))
+    words = line.split()
+    asked, text, moved = words[:3], from_hexadecimal(words[3]), words[5:]
+    right = f"record {{ ok = {flag(moved)}; place = {place(*(moved or asked))} }}"
+    answer = "a place" if moved else "35, past the limit"
+    return Row(line, answer, f"moved ({place(*asked)}) {listed(text)}", right, column=asked[2], shown=repr(text))
+
+
+LINE_ENDS = ["no line end", "one line end", "more line ends"]
+
+
+def line_end_rows(count, seed):
+    """How many line ends bytes have, also behind a CR, and whether a CR is the last of all: as a regular expression
+    finds them."""
+    chance, rows = random.Random(seed), {}
+    while len(rows) < count:
+        before = chance.choice([b"", b"\r"])
+        text = bytes(chance.choice([13, 10, 97, chance.randrange(256)]) for _ in range(chance.randrange(12)))
+        ends = len(re.findall(rb"\r\n|\r|\n", before + text)) - len(before)
+        last, given = flag((before + text).endswith(b"\r")), f"{flag(before)} {listed(text)}"
+        left, right = f"(lineEnds {given}, endsInReturn {given})", f"({ends}, {last})"
+        column, answer = "cr" if before else "other", LINE_ENDS[min(ends, 2)]
+        line = f"{column} {text.hex() or '-'} has {ends} {last}"
+        rows[before, text] = Row(line, answer, left, right, column=column, shown=repr(text))
+    return list(rows.values())
 
 
 RECORDED = ["a token of any length", "one token", "two tokens", "more tokens"]

@@ -13,7 +13,14 @@ from .sorts import PROJECT
 PER_CRATE = 5_000
 
 # the crates of definitions, and those that they need; `evidence` is evidence.txt
-CRATES = {"wat": "", "wat_values": "wat", "messages": "wat", "place": "wat", "evidence": "wat wat_values"}
+CRATES = {
+    "wat": "",
+    "wat_lines": "",
+    "wat_values": "wat",
+    "messages": "wat",
+    "place": "wat wat_lines",
+    "evidence": "wat wat_values",
+}
 
 
 def chunks(items, size):

@@ -42,6 +42,7 @@ use lib.ListN.{replicate}
 use Rattle.wat.specs.declared.Refusal.the-variants as refusal
 use Rattle.messages.specs.declared.Told.the-variants.{Refused, Written}
 """
+LINE_IMPORTS = "use mathlib.Core.Bool.{Bool}\n"
 RECORD_IMPORTS = "use Rattle.wat.specs.Division.{records}\n"
 READER_IMPORTS = """\
 use Rattle.wat.specs.declared.Refusal.the-variants.{Lexical}
@@ -85,7 +86,13 @@ MESSAGE_OPENED = {
     "messages.specs.Spelled": "hexBy hex shown lead",
     "messages.specs.MessageModel": "known showable tellable rest message fitted answer",
 }
-PLACE_OPENED = {"place.specs.PlaceModel": "step after moved"}
+PLACE_OPENED = {
+    "wat.specs.Bytes": "has",
+    "wat.specs.Chars": "newline",
+    "wat_lines.specs.LineEnds": "begins",
+    "place.specs.PlaceModel": "nextColumn kept after moved",
+}
+LINE_OPENED = {"wat_lines.specs.LineEnds": "begins lineEnds endsInReturn"}
 READER_OPENED = {
     "wat.specs.Bytes": "between has",
     "wat.specs.Numbers": "digit marks",
@@ -208,7 +215,22 @@ SORTS = [
         imports="",
         opened=PLACE_OPENED,
         answers=["a place", "35, past the limit"],
-        needs="wat place",
+        columns=["other", "cr"],
+        needs="wat wat_lines place",
+    ),
+    Sort(
+        name="lines",
+        option="--line-rows",
+        rows=1_000,
+        help="bytes whose line ends are counted",
+        of_line={},
+        imports=LINE_IMPORTS,
+        opened=LINE_OPENED,
+        answers=computed.LINE_ENDS,
+        columns=["other", "cr"],
+        needs="wat wat_lines",
+        more=computed.line_end_rows,
+        sides="ℕ × Bool",
     ),
     Sort(
         name="records",

@@ -49,7 +49,7 @@ mod c {
 }
 
 /// The version of the header that these bindings are written from.
-const VERSION: u32 = 3;
+const VERSION: u32 = 4;
 
 /// Stops the program if it is linked with a library of another version: its words would be misread. Asks once.
 #[inline]
@@ -163,9 +163,9 @@ pub fn message(number: u64, values: [u64; 2], buffer: &mut [u8]) -> [u64; 5] {
     out
 }
 
-pub fn move_over(place: &mut [u32; 2], bytes: &[u8]) -> bool {
+pub fn move_over(place: &mut [u32; 3], bytes: &[u8]) -> bool {
     same_version();
-    // SAFETY: `place` has the 2 numbers that are read and written, and is borrowed alone; `bytes` is a slice, with its length.
+    // SAFETY: `place` has the 3 numbers that are read and written, and is borrowed alone; `bytes` is a slice, with its length.
     unsafe { c::thallusweb_move(place.as_mut_ptr(), bytes.as_ptr(), bytes.len()) }
 }
 

@@ -519,7 +519,8 @@ impl<'a> Lexer<'a> {
         }
     }
 
-    /// The place of a position in the text: counts from the text's start, so that it is for error messages.
+    /// The place of a position in the text, which may be moved on from there: counts from the text's start, so that it is for error
+    /// messages.
     ///
     /// # Errors
     ///

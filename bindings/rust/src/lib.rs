@@ -30,7 +30,8 @@
 //!   no error to give, as in wast: of a token that is not there they give what is empty, and [`lexer::Token::read`] says why. For the last
 //!   three such a token is a mistake of the program, and fails a `debug_assert!`.
 //! * [`Error`] has a [`Refusal`] and a place in bytes: no span, no path and no excerpt of the text. [`Error::linecol_in`] and [`Place`]
-//!   count lines and columns; `Display` is one line. There is no constructor that takes a message.
+//!   count lines and columns; a line ends at LF, CR or CR LF, where wast's ends at LF alone. `Display` is one line. There is no
+//!   constructor that takes a message.
 //! * [`lexer::LexError`] has no `InvalidDigit`, which wast declares and never builds; its `InvalidUtf8Id` carries [`lexer::Utf8Error`],
 //!   our own type with the methods of `std::str::Utf8Error`.
 //! * [`Settings`] is a value that a builder makes and [`lexer::Lexer::with_settings`] takes, so that it can be a constant and serve many

@@ -97,8 +97,8 @@ impl From<LexError> for Refusal {
 /// A refusal, and where it stands in the text, if it stands anywhere.
 ///
 /// The counterpart of `wast::Error`: [`message`](Error::message) and [`lex_error`](Error::lex_error) are wast's, [`place`](Error::place)
-/// is its `span().offset()`, and [`linecol_in`](Error::linecol_in) its `span().linecol_in(text)`. `Display` is the message and the place
-/// in bytes, in one line.
+/// is its `span().offset()`, and [`linecol_in`](Error::linecol_in) its `span().linecol_in(text)`, with the line ends of [`Place`].
+/// `Display` is the message and the place in bytes, in one line.
 ///
 /// ```
 /// use thallusweb::lexer::Lexer;
@@ -154,8 +154,9 @@ impl Error {
         self.place
     }
 
-    /// The line and the column of the place in the text, each from 0, as wast's `Span::linecol_in` has them; columns count bytes, and a
-    /// line ends at LF. Add 1 to each to show them. Nothing where the error stands nowhere, or past the text's end.
+    /// The line and the column of the place in the text, each from 0, columns in bytes, as wast's `Span::linecol_in` has them, but that a
+    /// line ends as in [`Place`], where wast's ends at LF alone. Add 1 to each to show them. Nothing where the error stands nowhere, or
+    /// past the text's end.
     #[must_use]
     pub fn linecol_in(&self, text: &str) -> Option<(usize, usize)> {
         let mut place = Place::new();

@@ -307,13 +307,13 @@ fn errors() {
     let wrong = token.read(text, Reader::String).unwrap_err();
     assert_eq!((wrong.refusal().number(), wrong.place(), wrong.linecol_in(text)), (31, None, None));
     // at each place, lines and columns from 0
-    let text = "é\r\n\n \n\"";
+    let text = "é\r\n\n \n\r\r\n é\r\"";
     for end in (0..=text.len()).filter(|&end| text.is_char_boundary(end)) {
         let open = format!("{}(;", &text[..end]);
         let error = Lexer::new(&open).parse(&mut { end }).unwrap_err();
-        let before = &text.as_bytes()[..end];
-        let line = before.iter().filter(|&&byte| byte == b'\n').count();
-        let column = before.iter().rev().take_while(|&&byte| byte != b'\n').count();
+        let before = text[..end].replace("\r\n", "\n").replace('\r', "\n");
+        let line = before.matches('\n').count();
+        let column = before.rsplit('\n').next().unwrap().len();
         assert_eq!(error.linecol_in(&open), Some((line, column)), "at {end}");
         assert_eq!(error.linecol_in(&open[..end]), Some((line, column)), "at {end}");
         assert_eq!(error.linecol_in(""), (end == 0).then_some((0, 0)), "at {end}");
@@ -354,10 +354,48 @@ fn listings_stop() {
     assert_eq!((error.refusal().number(), error.place()), (17, Some(3)));
 }
 
+/// LF, CR, and CR LF together end a line, also where the moves are cut between CR and LF, and where empty ones stand between.
 #[test]
 fn places() {
-    let mut place = Place::new();
-    place.move_over(b"a\nbc").unwrap();
-    assert_eq!((place.line(), place.column()), (2, 3));
-    assert_eq!(Lexer::new("a\nbc").place(3).unwrap().column(), 2);
+    let moved = |pieces: &[&str]| {
+        let mut place = Place::new();
+        for piece in pieces {
+            place.move_over(piece.as_bytes()).unwrap();
+        }
+        place
+    };
+    let rows = [
+        ("", (1, 1)),
+        ("é(", (1, 4)),
+        ("a\nbc", (2, 3)),
+        ("a\rbc", (2, 3)),
+        ("a\r\nbc", (2, 3)),
+        ("a\n\nbc", (3, 3)),
+        ("a\r\rbc", (3, 3)),
+        ("a\r\n\r\nbc", (3, 3)),
+        ("a\n\rbc", (3, 3)),
+        ("a\r\r\nbc", (3, 3)),
+        ("a\r\n\nbc", (3, 3)),
+        // no CR LF
+        ("a\rb\n", (3, 1)),
+        // right behind either byte
+        ("a\r", (2, 1)),
+        ("a\r\n", (2, 1)),
+    ];
+    for (text, expected) in rows {
+        let whole = moved(&[text]);
+        assert_eq!((whole.line(), whole.column()), expected, "{text:?}");
+        for cut in (0..=text.len()).filter(|&cut| text.is_char_boundary(cut)) {
+            let (before, behind) = text.split_at(cut);
+            assert_eq!(moved(&["", before, "", "", behind, ""]), whole, "{before:?} and {behind:?}");
+            let mut place = Lexer::new(text).place(cut).unwrap();
+            assert_eq!(place, moved(&[before]), "{before:?}");
+            place.move_over(behind.as_bytes()).unwrap();
+            assert_eq!(place, whole, "{before:?} and {behind:?}");
+        }
+    }
+    assert_eq!((Place::new(), moved(&["\r\n"])), (Place::default(), moved(&["\n"])));
+    // of the same line and column, but a LF leads them to other lines
+    assert_ne!(moved(&["\r"]), moved(&["\n"]));
+    assert_ne!(moved(&["\r", "\n"]), moved(&["\n", "\n"]));
 }

@@ -26,18 +26,23 @@ pub fn part_of(text: &[u8], buffer: &[u8], answer: [u64; 5]) -> [u64; 3]
     }
 }
 
-// Moves the place counter, line and column, over a token's bytes; returns false, and leaves it, if 35 refuses that.
-pub fn moved(place: &mut [u32; 2], bytes: &[u8]) -> bool
+// Moves the place counter, line, column and whether the last byte passed is a CR, over a token's bytes; returns false,
+// and leaves the words as they are, if 35 refuses that.
+pub fn moved(place: &mut [u32; 3], bytes: &[u8]) -> bool
     ensures { λ r. ⌜ MovedWords (now (place .entry)) (now (bytes .entry)) r (now (place .exit)) ⌝ }
 {
     let m = place::move_over(
         Place {
             line: place[0],
             column: place[1],
+            after_cr: place[2] != 0,
         },
         bytes,
     );
+    if !m.ok {
+        return false;
+    }
     let p = m.place;
-    *place = [p.line, p.column];
-    m.ok
+    *place = [p.line, p.column, p.after_cr as u32];
+    true
 }

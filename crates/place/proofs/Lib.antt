@@ -1,3 +1,5 @@
 pub mod OnePlace
 pub mod MoveLaws
-pub mod WalkLaws
+pub mod PieceLaws
+mod ByteLaws
+mod WalkLaws

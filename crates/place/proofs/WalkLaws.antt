@@ -2,60 +2,54 @@
 use Prim.Native.Nat.{ℕ, _+_, _≤_, _<_}
 use native.Mathlib.Numerals.{add-one}
 use native.Mathlib.Omega.{arith}
-use mathlib.Core.Path.{_≡_, refl, _∙_}
+use mathlib.Core.Path.{_≡_, refl, ap, sym, _∙_}
 use mathlib.Core.Bool.{true, false}
 use mathlib.Core.List.{List}
-use mathlib.Core.Option.{none, some}
+use mathlib.Core.Option.{Option, none, some}
 use lib.ListN.{length, drop, getD, drop-of-length-le}
 use lib.Seq.{drop-cons}
-use borrow.Author.Tests.{lt-ltb, le-ltb, eq-eqb, ne-eqb}
-use Rattle.place.specs.declared.Place.{Place}
+use Rattle.place.specs.declared.{Place.Place, Moved.Moved}
 use Rattle.place.specs.Places.{Moves}
-use Rattle.place.specs.PlaceModel.{last, step, after, moved}
+use Rattle.place.specs.PlaceModel.{step, after, answer, moved}
+use Rattle.wat.proofs.Basics.{never}
 use Rattle.place.proofs.MoveLaws.{Held, decides}
 
--- the first i bytes lead from p to line and column
-pub record Walked (p : Place) (w : List ℕ) (line column i : ℕ) : Type 0 where
+-- the first i bytes lead from p to q
+pub record Walked (p : Place) (w : List ℕ) (q : Place) (i : ℕ) : Type 0 where
   pub from : Held p
   pub within : i ≤ length w
-  pub held : (line ≤ last) × (column ≤ last)
-  pub same : after p w ≡ after (record { line = line; column = column }) (drop i w)
+  pub same : after p w ≡ after q (drop i w)
 
-pub walked-none : (p : Place) (w : List ℕ) → Held p → Walked p w (p .line) (p .column) 0
-walked-none p w h = record { from = h; within = omega arith; held = h; same = refl }
+pub walked-none : (p : Place) (w : List ℕ) → Held p → Walked p w p 0
+walked-none p w h = record { from = h; within = omega arith; same = refl }
 
-module _ {p : Place} {w : List ℕ} {line column i : ℕ} (k : Walked p w line column i) where
-  on : (l c : ℕ) → i < length w → (l ≤ last) × (c ≤ last)
-      → step (record { line = line; column = column }) (getD w i 0) ≡ some (record { line = l; column = c }) → Walked p w l c (i + 1)
+went : (p : Place) (o : Option Place) {m : Moved} → m ≡ answer p o → m .ok ≡ true → o ≡ some (m .place)
+went p (some q) e k = ap (λ (n : Moved). some (n .place)) (sym e)
+went p none e k = absurd (never k (ap (λ (n : Moved). n .ok) e))
+
+stood : (p : Place) (o : Option Place) {m : Moved} → m ≡ answer p o → m .ok ≡ false → o ≡ none
+stood p (some q) e k = absurd (never (ap (λ (n : Moved). n .ok) e) k)
+stood p none e k = refl
+
+module _ {p : Place} {w : List ℕ} {q : Place} {i : ℕ} {m : Moved} (k : Walked p w q i) (h : i < length w)
+    (e : m ≡ answer q (step q (getD w i 0))) where
+  pub walked-on : m .ok ≡ true → Walked p w (m .place) (i + 1)
   unfolding after
-  on l c h b e = record { from = k .from; within = omega arith; held = b; same = k .same ∙ rw (add-one, drop-cons w i 0, e, after) }
+  walked-on o =
+      record {
+        from = k .from;
+        within = omega arith;
+        same = k .same ∙ rw (add-one, drop-cons w i 0, went q (step q (getD w i 0)) e o, after);
+      }
 
-  off : i < length w → step (record { line = line; column = column }) (getD w i 0) ≡ none
-      → Moves p w (record { ok = false; place = p })
+  pub walked-full : m .ok ≡ false → Moves p w (record { ok = false; place = p })
   unfolding after moved
-  off h e = let z : after p w ≡ none = k .same ∙ rw (drop-cons w i 0, e, after) in rw z at (decides p w (k .from))
-
-  pub walked-feed : i < length w → getD w i 0 ≡ 0x0A → (line ≡ last → ⊥) → Walked p w (line + 1) 1 (i + 1)
-  unfolding step
-  walked-feed h x n =
-      on (line + 1) 1 h (omega (arith, k .held), omega arith)
-      (rw (eq-eqb (getD w i 0) 0x0A x, lt-ltb line last (omega (arith, k .held)), step))
-
-  pub walked-byte : i < length w → (getD w i 0 ≡ 0x0A → ⊥) → (column ≡ last → ⊥) → Walked p w line (column + 1) (i + 1)
-  unfolding step
-  walked-byte h x n =
-      on line (column + 1) h (k .held .0, omega (arith, k .held))
-      (rw (ne-eqb (getD w i 0) 0x0A x, lt-ltb column last (omega (arith, k .held)), step))
-
-  pub feed-full : i < length w → getD w i 0 ≡ 0x0A → line ≡ last → Moves p w (record { ok = false; place = p })
-  unfolding step
-  feed-full h x e = off h (rw (eq-eqb (getD w i 0) 0x0A x, le-ltb line last (omega arith), step))
-
-  pub byte-full : i < length w → (getD w i 0 ≡ 0x0A → ⊥) → column ≡ last → Moves p w (record { ok = false; place = p })
-  unfolding step
-  byte-full h x e = off h (rw (ne-eqb (getD w i 0) 0x0A x, le-ltb column last (omega arith), step))
-
-  pub walked-all : length w ≤ i → Moves p w (record { ok = true; place = record { line = line; column = column } })
-  unfolding after moved
-  walked-all h = let z : after p w ≡ some (record { line = line; column = column }) = k .same ∙ rw (drop-of-length-le w h) in
+  walked-full o =
+      let z : after p w ≡ none = k .same ∙ rw (drop-cons w i 0, stood q (step q (getD w i 0)) e o, after) in
       rw z at (decides p w (k .from))
+
+pub walked-all : {p : Place} {w : List ℕ} {q : Place} {i : ℕ} → Walked p w q i → length w ≤ i
+    → Moves p w (record { ok = true; place = q })
+unfolding after moved
+walked-all {p} {w} {q} k h = let z : after p w ≡ some q = k .same ∙ rw (drop-of-length-le w h) in
+    rw z at (decides p w (k .from))

@@ -7,7 +7,11 @@ use place::Place;
 pub fn new_place() -> Place
     ensures { λ r. ⌜ r ≡ new ⌝ }
 {
-    Place { line: 1, column: 1 }
+    Place {
+        line: 1,
+        column: 1,
+        after_cr: false,
+    }
 }
 
 // Moves the counter over the bytes of a token; returns false, which is 35, and leaves it, if that is refused.

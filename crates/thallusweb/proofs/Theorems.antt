@@ -2,8 +2,8 @@
 -- gives the answers of which they speak is what the contracts of the public calls say (docs/PROMISES.md). Assumes nothing.
 use Prim.Native.Nat.{ℕ, _+_, _*_, _-_, _^_, _≤_, _<_}
 use mathlib.Core.Path.{_≡_}
-use mathlib.Core.Bool.{true}
-use mathlib.Core.List.{List, [], _++_}
+use mathlib.Core.Bool.{Bool, true, false}
+use mathlib.Core.List.{List, [], _∷_, _++_}
 use lib.ListN.{length, take, drop, getD}
 use denote.Ref.{RefT, ptr, now}
 use Rattle.wat.specs.declared.{Answer.Answer, TokenKind.TokenKind, Checked.Checked, Found.Found, Parsed.Parsed, Listed.Listed}
@@ -31,7 +31,11 @@ use Rattle.wat_forms.specs.Balance.{WholeForm, Structural}
 use Rattle.wat_forms.specs.Windows.{DecidedFold, MovedFold}
 use Rattle.read_second.specs.Parts.{PartFor}
 use Rattle.messages.specs.Messages.{Tells}
+use Rattle.wat_lines.specs.LineEnds.{lineEnds, endsInReturn}
+use Rattle.wat_lines.specs.Newlines.{Newlines}
 use Rattle.place.specs.Places.{Moves}
+use Rattle.place.specs.Pieces.{InTwo}
+use Rattle.c_spots.specs.Spots.{MovedWords}
 use Rattle.c_words.specs.Words.{foldedWords}
 use Rattle.c_read_words.specs.Words.{integerWords}
 use Rattle.wat.proofs.OneKind as kinds
@@ -60,6 +64,9 @@ use Rattle.wat_values.proofs.IntegerLaws as integers
 use Rattle.read_second.proofs.PartLaws as part
 use Rattle.messages.proofs.OneMessage as message
 use Rattle.place.proofs.OnePlace as place
+use Rattle.place.proofs.PieceLaws as two
+use Rattle.wat_lines.proofs.LineLaws as lines
+use Rattle.c_spots.proofs.SpotLaws as spots
 use Rattle.wat_forms.proofs.FoldLaws as folding
 use Rattle.wat_forms.proofs.InnerForms as inner
 use Rattle.wat_forms.proofs.FoldWindows as pieces
@@ -260,3 +267,34 @@ tells-one x y = message.tells-one x y
 
 pub moves-one : {from : Place} {w : List ℕ} {a b : Moved} → Moves from w a → Moves from w b → a ≡ b
 moves-one x y = place.moves-one x y
+
+-- ---- lines and columns
+
+-- Line ends are the standard's newlines, read from left to right, each as long as the bytes allow; after a CR, those that it and
+-- the bytes have, but for its own.
+pub ends-read : (w : List ℕ) → Newlines w (lineEnds false w)
+ends-read w = lines.ends-read w
+
+pub ends-read-on : (w : List ℕ) → Newlines (0x0D ∷ w) (1 + lineEnds true w)
+ends-read-on w = lines.ends-read-on w
+
+pub newlines-ends : {w : List ℕ} {n : ℕ} → Newlines w n → n ≡ lineEnds false w
+newlines-ends r = lines.newlines-ends r
+
+-- They may be counted piece by piece.
+pub ends-append : (cr : Bool) (u v : List ℕ) → lineEnds cr (u ++ v) ≡ lineEnds cr u + lineEnds (endsInReturn cr u) v
+ends-append cr u v = lines.ends-append cr u v
+
+-- A move over bytes is one over their front and then one over the rest, wherever they are cut; and so it is for callers from C.
+pub moves-compose : {p : Place} {u v : List ℕ} {m : Moved} → InTwo p u v m → Moves p (u ++ v) m
+moves-compose t = two.moves-compose t
+
+pub moves-cut : {p : Place} (u v : List ℕ) {m : Moved} → Moves p (u ++ v) m → InTwo p u v m
+moves-cut u v a = two.moves-cut u v a
+
+pub moved-words-compose : {place u v p q : List ℕ} {b : Bool} → MovedWords place u true p → MovedWords p v b q
+    → MovedWords place (u ++ v) b (elim b [ true ↦ q | false ↦ place ])
+moved-words-compose x y = spots.moved-words-compose x y
+
+pub moved-words-stop : {place u p : List ℕ} (v : List ℕ) → MovedWords place u false p → MovedWords place (u ++ v) false place
+moved-words-stop v x = spots.moved-words-stop v x

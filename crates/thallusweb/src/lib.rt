@@ -180,9 +180,10 @@ pub extern "C" fn thallusweb_message(
     *out = c_read_words::message_words(messages::message_of(number, first, second, buffer));
 }
 
-// Moves the place counter, line and column, over a token's bytes; returns false, and leaves it, if 35 refuses that.
+// Moves the place counter, line, column and whether the last byte passed is a CR, over a token's bytes; returns false,
+// and leaves it, if 35 refuses that.
 #[no_mangle]
-pub extern "C" fn thallusweb_move(place: &mut [u32; 2], bytes: &[u8]) -> bool
+pub extern "C" fn thallusweb_move(place: &mut [u32; 3], bytes: &[u8]) -> bool
     ensures { λ r. ⌜ MovedWords (now (place .entry)) (now (bytes .entry)) r (now (place .exit)) ⌝ }
 {
     c_spots::moved(place, bytes)

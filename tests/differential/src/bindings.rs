@@ -5,10 +5,11 @@ use crate::compare::{self, CANARY, MARGIN, shown};
 use crate::forms;
 use crate::integers;
 use crate::ours::{self as c, Found, Listed, Reading, Refused, Words};
-use crate::reading;
+use crate::{places, reading};
 use oracle::lexer as wast;
 use oracle::listing::RECORD;
 use oracle::texts::Texts;
+use oracle::token::Span;
 use std::borrow::Cow;
 use thallusweb::lexer::{self as ours, LexError, Reader};
 use thallusweb::{Error, Place, Refusal, Settings};
@@ -119,6 +120,30 @@ pub fn values(text: &str, token: Words) -> u64 {
     assert_eq!(word(of.i32(text).map(i128::from), 32), word_32, "{}", asked());
     assert_eq!(word(of.i64(text).map(i128::from), 64), word_64, "{}", asked());
     4
+}
+
+/// A counter that was moved over some bytes.
+fn place(bytes: &[u8]) -> Place {
+    let mut place = Place::new();
+    place.move_over(bytes).expect("a short text");
+    place
+}
+
+/// A counter moved over some bytes piece by piece: its line and column; that it equals the one that was moved at once; and that it equals
+/// one that other bytes led to the same line and column just where no CR was passed last. Answers how many answers there were.
+pub fn moves(pieces: &[&[u8]]) -> u64 {
+    let (mut moved, mut bytes) = (Place::new(), Vec::new());
+    for piece in pieces {
+        moved.move_over(piece).expect("a short text");
+        bytes.extend_from_slice(piece);
+    }
+    let asked = || format!("bindings, a place, over {}", shown(&bytes));
+    let [line, column, after_cr] = places::expected([1, 1, 0], &bytes).expect("a short text");
+    assert_eq!([moved.line(), moved.column()], [line, column], "{}", asked());
+    assert_eq!(moved, place(&bytes), "{}", asked());
+    let alone = "\n".repeat(line as usize - 1) + &"a".repeat(column as usize - 1);
+    assert_eq!(moved == place(alone.as_bytes()), after_cr == 0, "{}", asked());
+    3
 }
 
 /// The ends of forms at some positions. Answers how many answers there were.
@@ -234,9 +259,15 @@ impl Asked<'_> {
             Ok(Some(token)) if self.flag => self.readings(*token),
             Err(error) => {
                 let before = error.place().and_then(|place| text.get(..place));
-                let place = before.and_then(|before| reading::expected_move([1, 1], before));
-                let expected = place.map(|[line, column]| (line as usize - 1, column as usize - 1));
+                let place = before.and_then(|before| places::expected([1, 1, 0], before));
+                let expected = place.map(|[line, column, _]| (line as usize - 1, column as usize - 1));
                 assert_eq!(error.linecol_in(self.text), expected, "{}", at());
+                // the original's lines end at LF alone
+                let bare = text.split(|&byte| byte == b'\r').skip(1).any(|behind| !behind.starts_with(b"\n"));
+                if let Some(before) = before.filter(|before| !bare && !before.ends_with(b"\r")) {
+                    let original = Span::from_offset(before.len()).linecol_in(self.text);
+                    assert_eq!(expected, Some(original), "{}, with no bare CR", at());
+                }
                 1
             }
             _ => 0,
@@ -249,12 +280,17 @@ impl Asked<'_> {
         }
         let annotation = compare::expected_annotation(text, self.flag, position);
         assert_eq!(found(self.lexer.annotation(position)), annotation, "{}", at());
-        let place = self.lexer.place(position).map(|place| [place.line(), place.column()]);
+        let counted = self.lexer.place(position);
+        if let Ok(mut counter) = counted.clone() {
+            counter.move_over(&text[position..]).expect("a short text");
+            assert_eq!(counter, place(text), "{}, moved on", at());
+        }
         let expected = match text.get(..position) {
-            Some(before) => Ok(reading::expected_move([1, 1], before).expect("a short text")),
+            Some(before) => Ok(places::expected([1, 1, 0], before).expect("a short text")),
             None => Err(Refused { number: 3, values: [0, 0], place: position as u64 }),
         };
-        assert_eq!(place.map_err(|error| refused(&error)), expected, "{}", at());
+        let counted = counted.map(|place| [place.line(), place.column()]).map_err(|error| refused(&error));
+        assert_eq!(counted, expected.map(|[line, column, _]| [line, column]), "{}", at());
         readings + 3 + self.fold(position)
     }
 
@@ -300,11 +336,7 @@ pub fn text(text: &str, number: u64) -> u64 {
         count += asked.listing(chance.boundary(text), chance.below(3), 4 * RECORD);
         count += asked.listing(chance.boundary(text), usize::MAX, chance.below(3 * RECORD));
     }
-    let mut place = Place::new();
-    place.move_over(text.as_bytes()).expect("a short text");
-    let expected = reading::expected_move([1, 1], text.as_bytes()).expect("a short text");
-    assert_eq!([place.line(), place.column()], expected, "bindings, the place of {}", shown(text.as_bytes()));
-    count + bytes(text.as_bytes())
+    count + moves(&[text.as_bytes()]) + bytes(text.as_bytes())
 }
 
 /// Compares what is said of bytes that need not be a text.

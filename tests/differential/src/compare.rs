@@ -1,6 +1,6 @@
 //! One text, asked of both sides in every way: at every position, with both flags, each alone in the settings word and beside
-//! ignored bits, listed with small and large budgets and lists; `reading.rs` and `forms.rs` ask the rest. What docs/RULES.md adds
-//! to the Rust, the refusals 1 to 4, is expected by its rule.
+//! ignored bits, listed with small and large budgets and lists; `reading.rs`, `places.rs` and `forms.rs` ask the rest. What
+//! docs/RULES.md adds to the Rust, the refusals 1 to 4, is expected by its rule.
 
 use crate::ours::{self, Found, Listed, Refused, Stop};
 use oracle::listing::{self, RECORD};
@@ -19,7 +19,12 @@ pub struct Counts {
     pub parts: u64,
     pub signs: u64,
     pub messages: u64,
+    /// moves of the place counter
     pub moves: u64,
+    /// those that 35 refuses
+    pub full: u64,
+    /// byte strings that were asked for their moves alone
+    pub strings: u64,
     /// answers of the Rust bindings
     pub items: u64,
     /// how often each refusal was the answer for one token or of a reader
@@ -129,6 +134,8 @@ impl Counts {
             signs,
             messages,
             moves,
+            full,
+            strings,
             items,
             refusals,
             literals,
@@ -147,6 +154,8 @@ impl Counts {
         self.signs += signs;
         self.messages += messages;
         self.moves += moves;
+        self.full += full;
+        self.strings += strings;
         self.items += items;
         self.literals += literals;
         self.values += values;

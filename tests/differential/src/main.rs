@@ -6,6 +6,7 @@ mod forms;
 mod header;
 mod integers;
 mod ours;
+mod places;
 mod reading;
 
 use compare::Counts;
@@ -21,9 +22,10 @@ differential: Thallusweb against the Rust original
   differential [--bytes N] [--symbols N] [--random N] [--seed S]
       --bytes N     every byte string of up to N bytes (default 2)
       --symbols N   every text of up to N symbols of a telling alphabet, every literal of an integer of up to N
-                    parts, and every nest of forms of up to N + 2 symbols (default 4)
-      --random N    so many random texts, whole, cut and damaged, random byte strings, and literals of integers,
-                    and a fifth as many nests of forms (default 100000)
+                    parts, every nest of forms of up to N + 2 symbols, and every string of up to N + 3 bytes that
+                    are a CR, a LF or another (default 4)
+      --random N    so many random texts, whole, cut and damaged, random byte strings, literals of integers, and
+                    byte strings with line ends, and a fifth as many nests of forms (default 100000)
       --seed S      of the random texts (default 1)
 ";
 
@@ -124,6 +126,7 @@ fn share(options: &Options, which: u64) -> Counts {
     }
     counts.literals((which, SHARES), options.symbols, options.random, options.seed);
     counts.nests((which, SHARES), options.symbols, options.random, options.seed);
+    counts.line_ends((which, SHARES), options.symbols, options.random, options.seed);
     counts
 }
 
@@ -157,11 +160,15 @@ fn main() -> ExitCode {
             counts.add(worker.join().expect("a thread that met no difference"));
         }
     });
-    let Counts { texts, tokens, annotations, listings, readings, parts, signs, messages, moves, .. } = counts;
+    let Counts { texts, tokens, annotations, listings, readings, parts, signs, messages, .. } = counts;
     println!(
-        "{texts} texts: {tokens} tokens, {annotations} annotations, {listings} listings, {readings} readings, {parts} parts, {signs} signs, \
-         {messages} messages and {moves} moves of the place counter agree; {:.0} s",
+        "{texts} texts: {tokens} tokens, {annotations} annotations, {listings} listings, {readings} readings, {parts} parts, {signs} signs \
+         and {messages} messages agree; {:.0} s",
         began.elapsed().as_secs_f64()
+    );
+    let Counts { moves, full, strings, .. } = counts;
+    println!(
+        "{moves} moves of the place counter agree, {full} of them refused, over these tokens and {strings} strings with line ends"
     );
     println!("{} values of integers agree, of these tokens and of {} literals", counts.values, counts.literals);
     let ends = counts.folds - counts.fold_refusals.values().sum::<u64>();
@@ -171,6 +178,7 @@ fn main() -> ExitCode {
     );
     println!("{} answers of the Rust bindings agree", counts.items);
     if options.random >= ENOUGH {
+        assert!(0 < full && full < moves, "of {moves} moves {full} are refused");
         assert!(ends > 0, "no form ends");
         let met = |number: &u64| counts.fold_refusals.contains_key(number);
         assert!(forms::REFUSALS.iter().all(met), "of a form's end not all refusals: {:?}", counts.fold_refusals);

@@ -202,12 +202,16 @@ pub fn message(number: u64, values: [u64; 2], buffer: &mut [u8]) -> Result<u64, 
     }
 }
 
-/// The counter afterwards, or nothing where the move is refused by 35 and left it as it was.
-pub fn move_over(place: [u32; 2], bytes: &[u8]) -> Option<[u32; 2]> {
-    let mut after = [7, place[0], place[1], 7];
-    let moved = unsafe { c::thallusweb_move(after[1..].as_mut_ptr().cast(), bytes.as_ptr(), bytes.len()) };
-    assert_eq!((after[0], after[3]), (7, 7), "a number beside the counter was written");
-    let after = [after[1], after[2]];
-    assert!(moved || after == place, "a refused move changed the counter");
+/// The place counter's words: line, column, and whether the last byte passed is a CR.
+pub type Counter = [u32; 3];
+
+/// The counter afterwards, or nothing where the move is refused by 35 and left its words as they were.
+pub fn move_over(place: Counter, bytes: &[u8]) -> Option<Counter> {
+    const BESIDE: u32 = UNTOUCHED as u32;
+    let mut words = [[BESIDE; 3], place, [BESIDE; 3]];
+    let moved = unsafe { c::thallusweb_move(&mut words[1], bytes.as_ptr(), bytes.len()) };
+    let [before, after, behind] = words;
+    assert_eq!((before, behind), ([BESIDE; 3], [BESIDE; 3]), "a word beside the counter was written");
+    assert!(moved || after == place, "a refused move left {after:?} for {place:?}, over {}", bytes.escape_ascii());
     moved.then_some(after)
 }

@@ -1,8 +1,8 @@
-//! Readers, messages and the place counter, asked of both sides: of tokens that are there, and of tokens, numbers and answers that
-//! nobody gave.
+//! Readers and messages, asked of both sides: of tokens that are there, and of tokens, numbers and answers that nobody gave.
 
 use crate::compare::{self, CANARY, Counts, MARGIN, shown};
 use crate::ours::{self, Reading, Refused, Words};
+use crate::places;
 use oracle::lexer::SignToken;
 use oracle::readers::Token;
 use oracle::texts::Texts;
@@ -54,14 +54,6 @@ fn expected_part(text: &[u8], buffer: &[u8], answer: [u64; 5]) -> [u64; 3] {
     if start <= whole && len <= whole - start { [what, start, len] } else { [0, 0, 0] }
 }
 
-/// The counter moved byte by byte.
-pub fn expected_move(place: [u32; 2], bytes: &[u8]) -> Option<[u32; 2]> {
-    bytes.iter().try_fold(place, |[line, column], byte| match byte {
-        b'\n' => Some([line.checked_add(1)?, 1]),
-        _ => Some([line, column.checked_add(1)?]),
-    })
-}
-
 impl Counts {
     /// Every reader of a token, with a buffer as long as the token, with one that may be too short, and of the token alone.
     pub fn readers(&mut self, bytes: &[u8], token: Words, chance: &mut Texts) {
@@ -92,11 +84,8 @@ impl Counts {
         self.values(bytes, token);
         if let Some(own) = own {
             self.values(own, [kind, 0, len]);
-            let near = [u32::MAX - chance.below(4) as u32, u32::MAX - chance.below(12) as u32];
-            for place in [[1, 1], near] {
-                assert_eq!(ours::move_over(place, own), expected_move(place, own), "{place:?} over {}", shown(own));
-                self.moves += 1;
-            }
+            self.moved([1, 1, 0], own);
+            self.moved(places::near(chance), own);
         }
     }
 

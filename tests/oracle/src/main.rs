@@ -43,8 +43,9 @@ oracle: what the Rust original says of texts, in the numbers of docs/RULES.md
           NUMBER DATA DATA ROOM too-short
           NUMBER DATA DATA ROOM told MESSAGE
       places: the place after some bytes (or 35)
-          LINE COLUMN BYTES moved LINE COLUMN
-          LINE COLUMN BYTES full
+          LINE COLUMN LAST BYTES moved LINE COLUMN LAST
+          LINE COLUMN LAST BYTES full
+          LAST is cr or other: whether the last byte passed is a CR
       records: the records of a text's tokens up to the first error; or, with no text, of one token of any length
           TEXT KIND LENGTH KIND LENGTH .. has BYTES
       readers: what a reader leaves of a token, which stands at an offset and has these bytes

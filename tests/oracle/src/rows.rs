@@ -3,6 +3,7 @@
 use crate::record::wanted;
 use oracle::lexer::{LexError, Lexer};
 use oracle::listing::{RECORD, record};
+use oracle::places::Place;
 use oracle::texts::Texts;
 use oracle::values::{NO_READER, Value};
 use oracle::{Answer, Oracle, numbers, places, utf8};
@@ -156,23 +157,26 @@ fn message(chance: &mut Texts) -> (String, String) {
     (format!("{number} {} {} {room}", data[0], data[1]), answer)
 }
 
-/// A move over any bytes, line feeds among them, a third of them from a place near the limit.
+/// A move over any bytes, line ends among them, a third of them from a place near the limit, and half of them from one
+/// behind a CR.
 fn place(chance: &mut Texts) -> (String, String) {
     let mut bytes = chance.text(TEXT / 2).into_bytes();
     for _ in 0..chance.below(4) {
-        bytes.insert(chance.below(bytes.len() + 1), b'\n');
+        let (at, end) = (chance.below(bytes.len() + 1), ["\n", "\r", "\r\n"][chance.below(3)]);
+        bytes.splice(at..at, end.bytes());
+    }
+    if chance.below(4) == 0 {
+        bytes.insert(0, b'\n');
     }
     let mut start = || match chance.below(3) {
         0 => u32::MAX - chance.below(TEXT / 2) as u32,
         1 => 1 + chance.below(300) as u32,
         _ => chance.any_number(),
     };
-    let [line, column] = [start(), start()];
-    let answer = match places::moved([line, column], &bytes) {
-        None => "full".to_string(),
-        Some([line, column]) => format!("moved {line} {column}"),
-    };
-    (format!("{line} {column} {}", hexadecimal(&bytes)), answer)
+    let from = Place { line: start(), column: start(), after_cr: chance.below(2) == 0 };
+    let told = |Place { line, column, after_cr }| format!("{line} {column} {}", if after_cr { "cr" } else { "other" });
+    let answer = places::moved(from, &bytes).map_or("full".to_string(), |to| format!("moved {}", told(to)));
+    (format!("{} {}", told(from), hexadecimal(&bytes)), answer)
 }
 
 /// The records of a text's tokens, as a listing writes them; or one of a length that no short text has. Texts without a

@@ -138,6 +138,20 @@ impl Texts {
         bytes
     }
 
+    /// At most `limit` bytes, half of which are CR and LF.
+    pub fn line_ends(&mut self, limit: usize) -> Vec<u8> {
+        let mut bytes = vec![b'a'; self.below(limit + 1)];
+        for byte in &mut bytes {
+            *byte = match self.below(4) {
+                0 => b'\r',
+                1 => b'\n',
+                2 => b'a',
+                _ => self.next() as u8,
+            };
+        }
+        bytes
+    }
+
     /// A number below `n`.
     pub fn below(&mut self, n: usize) -> usize {
         (self.next() % n as u64) as usize

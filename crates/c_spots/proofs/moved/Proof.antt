@@ -1,6 +1,7 @@
--- `c_spots::moved` meets its contract: the place is that of the move. Assumes nothing.
-use Rattle.c_spots.specs.Spots.{MovedWords}
+-- `c_spots::moved` meets its contract: the words are those of the move, or as they were. Assumes nothing.
 use borrow.Author.Needs.{needs}
+use borrow.Author.Tests.{not-true, not-false}
+use Rattle.c_spots.proofs.SpotLaws.{of-moved, of-refused}
 use Rattle.c_spots.proofs.moved.Statement.{statement}
 use Rattle.c_spots.proofs.moved.Tie as tie
 
@@ -10,12 +11,29 @@ element-copy-out-t7 c = search needs
 element-copy-out-t10 : tie.Need-element-copy-out-t10
 element-copy-out-t10 c = search needs
 
+element-copy-out-if1 : tie.Need-element-copy-out-if1
+element-copy-out-if1 c = search needs
+
 move-over-requires : tie.Need-move-over-requires
 move-over-requires c κs = search needs
 
 returns : tie.Need-returns
-returns c = MovedWords.moved (c .before .before .move-over .result) (c .before .before .move-over .ensures)
+returns c = of-refused (c .before .before .move-over .ensures) (not-true _ (c .if1 .taken))
+
+cast-t7 : tie.Need-cast-t7
+cast-t7 c = search needs
+
+returns-2 : tie.Need-returns-2
+returns-2 c = of-moved (c .before .before .before .before .before .move-over .ensures) (not-false _ (c .before .before .before .if1 .left))
 
 pub moved-spec : {M : Type 1} → statement M
 moved-spec =
-    tie.close (tie.spec element-copy-out-t7 element-copy-out-t10 move-over-requires returns)
+    tie.close
+    (tie.spec
+    element-copy-out-t7
+    element-copy-out-t10
+    element-copy-out-if1
+    move-over-requires
+    returns
+    cast-t7
+    returns-2)

@@ -3,27 +3,30 @@ use Prim.Native.Nat.{_-_}
 use native.Mathlib.Omega.{arith}
 use lib.ListN.{length}
 use borrow.Author.Needs.{needs}
-use Rattle.place.proofs.WalkLaws.{Walked, walked-none, walked-feed, walked-byte, feed-full, byte-full, walked-all}
+use borrow.Author.Tests.{not-true, not-false}
+use Rattle.place.proofs.WalkLaws.{Walked, walked-none, walked-on, walked-full, walked-all}
 use Rattle.place.proofs.move_over.Statement.{statement}
 use Rattle.place.proofs.move_over.Tie as tie
 
 abbrev Inv-loop : tie.InvT-loop
-Inv-loop p w line₀ column₀ i₀ line column i = Walked p w line column i
+Inv-loop p w at₀ i₀ at i = Walked p w at i
 
 abbrev μ-loop : tie.MeasureT-loop
-μ-loop p w line₀ column₀ i₀ line column i = length w - i
+μ-loop p w at₀ i₀ at i = length w - i
 
 loop-holds : tie.Need-loop-holds Inv-loop μ-loop
 loop-holds c = walked-none _ _ (omega arith, omega arith)
 
-shared-slice-read-if1 : tie.Need-shared-slice-read-if1 Inv-loop μ-loop
-shared-slice-read-if1 c = search needs
+shared-slice-read-over-byte : tie.Need-shared-slice-read-over-byte Inv-loop μ-loop
+shared-slice-read-over-byte c = search needs
+
+over-byte-requires : tie.Need-over-byte-requires Inv-loop μ-loop
+over-byte-requires c κs = tt
 
 returns : tie.Need-returns Inv-loop μ-loop
-returns c = feed-full (c .before .before .before .before .loop .inv) (omega arith) (c .before .if1 .taken) (omega arith)
-
-add-line : tie.Need-add-line Inv-loop μ-loop
-add-line c = search needs
+returns c =
+    walked-full (c .before .before .before .before .before .loop .inv) (omega arith) (c .before .before .over-byte .ensures)
+    (not-true _ (c .if1 .taken))
 
 add-i : tie.Need-add-i Inv-loop μ-loop
 add-i c = search needs
@@ -32,25 +35,12 @@ loop-less : tie.Need-loop-less Inv-loop μ-loop
 loop-less c = search needs
 
 loop-again : tie.Need-loop-again Inv-loop μ-loop
-loop-again c = walked-feed (c .before .before .before .before .loop .inv) (omega arith) (c .before .if1 .taken) (omega arith)
+loop-again c =
+    walked-on (c .before .before .before .before .before .before .loop .inv) (omega arith) (c .before .before .before .over-byte .ensures)
+    (not-false _ (c .before .if1 .left))
 
 returns-2 : tie.Need-returns-2 Inv-loop μ-loop
-returns-2 c = byte-full (c .before .before .before .before .loop .inv) (omega arith) (c .before .if1 .left) (omega arith)
-
-add-column : tie.Need-add-column Inv-loop μ-loop
-add-column c = search needs
-
-add-i-2 : tie.Need-add-i-2 Inv-loop μ-loop
-add-i-2 c = search needs
-
-loop-less-2 : tie.Need-loop-less-2 Inv-loop μ-loop
-loop-less-2 c = search needs
-
-loop-again-2 : tie.Need-loop-again-2 Inv-loop μ-loop
-loop-again-2 c = walked-byte (c .before .before .before .before .loop .inv) (omega arith) (c .before .if1 .left) (omega arith)
-
-returns-3 : tie.Need-returns-3 Inv-loop μ-loop
-returns-3 c = walked-all (c .before .loop .inv) (omega arith)
+returns-2 c = walked-all (c .before .loop .inv) (omega arith)
 
 pub move-over-spec : {M : Type 1} → statement M
 move-over-spec =
@@ -59,15 +49,10 @@ move-over-spec =
     Inv-loop
     μ-loop
     loop-holds
-    shared-slice-read-if1
+    shared-slice-read-over-byte
+    over-byte-requires
     returns
-    add-line
     add-i
     loop-less
     loop-again
-    returns-2
-    add-column
-    add-i-2
-    loop-less-2
-    loop-again-2
-    returns-3)
+    returns-2)
