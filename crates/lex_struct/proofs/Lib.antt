@@ -1,2 +1,3 @@
 mod StructLaws
 mod LookLaws
+mod SetLaws
