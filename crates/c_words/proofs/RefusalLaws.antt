@@ -20,7 +20,8 @@ refusals a b =
     ∷ Lexical (error.Expected a b) ∷ Lexical error.UnexpectedEof ∷ Lexical error.NumberTooBig
     ∷ Lexical (error.InvalidUnicodeValue a) ∷ Lexical error.LoneUnderscore ∷ Lexical (error.ConfusingUnicode a)
     ∷ Lexical (error.InvalidUtf8Id a b) ∷ Lexical error.EmptyId ∷ Lexical error.EmptyAnnotation
-    ∷ NoMessage ∷ NoMessage ∷ NoMessage ∷ NoMessage ∷ NoMessage ∷ NotThatToken ∷ NotThatKind ∷ BufferTooShort ∷ []
+    ∷ Lexical error.DoubleUnderscore ∷ NoMessage ∷ NoMessage ∷ NoMessage ∷ NoMessage
+    ∷ NotThatToken ∷ NotThatKind ∷ BufferTooShort ∷ []
 
 -- the refusal that five words are of
 abbrev pub refusal-of : List ℕ → Refusal
@@ -41,6 +42,7 @@ error-again (error.ConfusingUnicode c) p = refl
 error-again (error.InvalidUtf8Id v e) p = refl
 error-again error.EmptyId p = refl
 error-again error.EmptyAnnotation p = refl
+error-again error.DoubleUnderscore p = refl
 
 refusal-again : (r : Refusal) (p : ℕ) → r ≡ refusal-of (refusedWords r p)
 refusal-again TooLong p = refl

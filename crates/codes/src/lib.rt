@@ -226,6 +226,7 @@ pub fn error_code(e: LexError) -> Code
         } => with_lengths(22, valid_up_to, error_len),
         LexError::EmptyId => bare(23),
         LexError::EmptyAnnotation => bare(24),
+        LexError::DoubleUnderscore => bare(25),
     }
 }
 

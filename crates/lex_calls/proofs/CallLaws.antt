@@ -2,9 +2,9 @@
 use Prim.Native.Nat.{ℕ, zero, suc, _+_, _-_, _≤_, _<_}
 use mathlib.Core.Path.{_≡_, refl, sym, ap, subst, _∙_}
 use mathlib.Core.Bool.{true, false}
-use mathlib.Core.List.{List, [], _∷_, _++_}
+use mathlib.Core.List.{List, [], _∷_}
 use native.Mathlib.Omega.{arith}
-use lib.ListN.{length, take, drop, length-drop, take-append-drop, drop-of-length-le}
+use lib.ListN.{length, drop, length-drop, drop-of-length-le}
 use borrow.Author.Tests.{eqb-true}
 use Rattle.wat.specs.declared.{TokenKind.TokenKind, Fault.Fault, Answer.Answer, Found.Found, Parsed.Parsed, Settings.Settings}
 use Rattle.wat.specs.declared.TokenKind.the-variants as kind
@@ -18,8 +18,7 @@ use Rattle.wat.specs.Lexing.{Lexed}
 use Rattle.wat.specs.LexModel.{next, lex}
 use Rattle.wat.specs.Calls.{Text, Stands, at, AtSign, Parses, Annotates}
 use Rattle.wat.proofs.Basics.{differ, never, fault-same}
-use Rattle.wat.proofs.Boundaries.{cut}
-use Rattle.wat_laws.proofs.Total.{lexed}
+use Rattle.wat_laws.proofs.{Total.lexed, OneCall.sign-stands}
 use Rattle.codes.specs.declared.MaybeKind.{MaybeKind}
 use Rattle.codes.specs.declared.MaybeKind.the-variants.{Kind, NoKind}
 use Rattle.codes.specs.Numbered.{Numbered}
@@ -110,14 +109,6 @@ module _ (text : List ℕ) (pos : ℕ) where
       go : (t : List ℕ) → drop pos text ≡ t → next (byte "@") t ≡ true → AtSign text pos
       go [] e n = absurd (never n refl)
       go (x ∷ t) e n = (t, e ∙ ap (λ (y : ℕ). y ∷ t) (eqb-true x (byte "@") n))
-
-  -- a position before an ASCII byte stands between two characters
-  pub sign-stands : Text text → AtSign text pos → Stands text pos
-  sign-stands t g =
-      let e : text ≡ take pos text ++ (byte "@" ∷ g .0) =
-      sym (take-append-drop pos text) ∙ ap (λ (z : List ℕ). take pos text ++ z) (g .1) in
-      let w : WellFormed (byte "@" ∷ g .0) = cut (t .formed) (take pos text) (byte "@") (g .0) e (omega arith) .1 in
-      record { sound = t; within = omega (arith, length-drop pos text, ap length (g .1)); between = rw (g .1) w }
 
 module _ (σ : Settings) (text : List ℕ) (pos : ℕ) (t : Text text) (g : AtSign text pos) {a : Answer}
     (l : Lexed σ (drop pos text) a) where

@@ -13,13 +13,13 @@ use Rattle.wat.specs.Bytes.{byte}
 use Rattle.wat.specs.declared.Fault.{Fault}
 use Rattle.wat.specs.Faults.{fault}
 use Rattle.wat.specs.declared.LexError.the-variants.{InvalidStringElement, InvalidStringEscape, InvalidHexDigit, Expected, UnexpectedEof}
-use Rattle.wat.specs.declared.LexError.the-variants.{NumberTooBig, InvalidUnicodeValue, LoneUnderscore, ConfusingUnicode}
+use Rattle.wat.specs.declared.LexError.the-variants.{NumberTooBig, InvalidUnicodeValue, LoneUnderscore, ConfusingUnicode, DoubleUnderscore}
 use Rattle.wat.specs.declared.Settings.{Settings}
 use Rattle.wat.specs.Utf8.{scalar}
 use Rattle.wat.specs.Chars.{control, isScalar}
 use Rattle.wat.specs.Strings.{escapes}
 use Rattle.wat.specs.declared.Num.{Num}
-use Rattle.wat.specs.declared.Num.the-variants.{Is as num, Lone as lone, Big as big}
+use Rattle.wat.specs.declared.Num.the-variants.{Is as num, Lone as lone, Big as big, Double as double}
 use Rattle.wat.specs.StringModel.{nothing, peek, hexOf, digits, encode, letterOf, Read, element, quote, refused}
 use Rattle.wat.specs.StringModel.{closeBy, numberBy, firstBy, braceBy, secondBy, escapeBy, hides, readBy, read}
 use Rattle.utf8_chars.specs.Decoding.{Character}
@@ -101,6 +101,10 @@ module _ (t : List ℕ) (m : Num) where
   pub number-big : (k : ℕ) → big k ≡ m → numberBy t m ≡ refused (fault NumberTooBig (3 + k) (4 + k))
   unfolding numberBy
   number-big k q = rw (← q)
+
+  pub number-double : (k : ℕ) → double k ≡ m → numberBy t m ≡ refused (fault DoubleUnderscore (3 + k) (4 + k))
+  unfolding numberBy
+  number-double k q = rw (← q)
 
 pub number-scalar :
     (s : List ℕ) (i j n k : ℕ) (m : Num) → num n k ≡ m → j ≡ i + k → isScalar n ≡ true

@@ -5,7 +5,7 @@ use mathlib.Core.List.{List, [], _∷_}
 use mathlib.Core.Option.{Option, none, some}
 use lib.ListN.{length}
 use Rattle.wat.specs.declared.{Fault.Fault, Num.Num}
-use Rattle.wat.specs.declared.Num.the-variants.{Is, Lone, Big}
+use Rattle.wat.specs.declared.Num.the-variants.{Is, Lone, Big, Double}
 use Rattle.wat.specs.StringModel as model
 use Rattle.lex_escapes.specs.declared.Read.{Read}
 use Rattle.lex_escapes.specs.declared.Read.the-variants.{Byte, Char, Quote, Refused}
@@ -15,6 +15,7 @@ abbrev pub consumed : Num → ℕ
 consumed (Is n k) = k
 consumed (Lone k) = k
 consumed (Big k) = suc k
+consumed (Double k) = suc k
 
 -- r says the number m of which one digit stands before t
 pub record Counted (t : List ℕ) (m r : Num) : Type 0 where

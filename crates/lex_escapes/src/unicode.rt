@@ -97,6 +97,11 @@ fn unicode_value(s: &[u8], at: usize, first: u32, settings: Settings, t: &[u8; 2
             place: 3 + len,
             after: 4 + len,
         }),
+        Num::Double(len) => Read::Refused(Fault {
+            error: LexError::DoubleUnderscore,
+            place: 3 + len,
+            after: 4 + len,
+        }),
     }
 }
 
@@ -133,7 +138,8 @@ fn close_brace(s: &[u8], at: usize, value: u32, len: usize) -> Read
     })
 }
 
-// The number of `\u{..}` whose first digit has the value `first` and ends at `at`: the loop of the Rust's `hexnum`.
+// The number of `\u{..}` whose first digit has the value `first` and ends at `at`: the loop of the Rust's `hexnum`. Where
+// digits are strict, the second underscore of a pair is refused as it is met.
 fn hexnum(s: &[u8], at: usize, first: u32, settings: Settings, t: &[u8; 256]) -> Num
     requires { ⌜ at ≤ length (now s) ⌝ }
     requires { ⌜ Classes (now t) ⌝ }
@@ -146,6 +152,9 @@ fn hexnum(s: &[u8], at: usize, first: u32, settings: Settings, t: &[u8; 256]) ->
     while i < s.len() {
         let b = s[i];
         if b == b'_' {
+            if under & settings.strict_digits {
+                return Num::Double(1 + (i - at));
+            }
             under = true;
             i += 1;
         } else {

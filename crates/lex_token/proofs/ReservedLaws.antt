@@ -25,7 +25,7 @@ use Rattle.wat.specs.declared.Family.the-variants.{Run as run}
 use Rattle.wat.specs.LexModel.{family, wordKind, kindOf, runBy, lexBy, next}
 use Rattle.wat.proofs.Runs.{run-stops}
 use Rattle.wat.proofs.OneKind.{kind-word}
-use Rattle.wat_laws.proofs.LongestOf.{elems-lenient}
+use Rattle.wat_laws.proofs.SettingLaws.{str-lenient}
 use Rattle.wat_laws.proofs.RunKinds.{quotedBy, kind-one-string, kind-more}
 use Rattle.lex_numbers.proofs.SliceLaws.{at-byte}
 use Rattle.lex_classes.specs.Scan.{Scanned}
@@ -34,11 +34,6 @@ use Rattle.lex_token.proofs.SliceLaws.{slice-split, slice-take, slice-j
 use Rattle.lex_token.proofs.StepLaws.{step-token, step-fault}
 use Rattle.lex_token.proofs.RunLaws.{walked, Ran, ran-more, ran-walk, scanned-each, ran-idchars, idchars-stop, Quoted}
 use Rattle.lex_token.proofs.LexLaws.{lex-family, Within, lex-within}
-
--- ---- a string under any settings is one under the lenient ones
-
-str-lenient : {σ : Settings} {s v : List ℕ} → Str σ s v → Str lenient s v
-str-lenient (Str.quoted q) = Str.quoted (elems-lenient q)
 
 -- ---- the answer for a run, by where its walk ends
 

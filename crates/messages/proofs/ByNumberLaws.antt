@@ -16,11 +16,11 @@ use Rattle.wat.proofs.Basics.{between-true, below, never}
 use Rattle.messages.specs.declared.Told.{Told}
 use Rattle.messages.specs.Messages.{Tells}
 use Rattle.messages.specs.ByNumber.{bits, Spelled, TellsBy}
-use Rattle.messages.specs.MessageModel.{known, wide, answer}
+use Rattle.messages.specs.MessageModel.{wide, answer}
 use Rattle.messages.proofs.OneMessage.{tells-one}
 use Rattle.messages.proofs.MessageLaws.{and-left, and-right, Carries}
 use Rattle.messages.proofs.AnswerLaws.{unknown, untold}
-use Rattle.messages.proofs.TellLaws.{answered, tells, carries, no-number}
+use Rattle.messages.proofs.TellLaws.{answered, tells, carries, errors, no-number, no-error}
 use Rattle.messages.proofs.WidthLaws.{Room, narrow, room, not-wide}
 
 -- an error of a number, with the values a and b; and those of the numbers from n on
@@ -41,7 +41,7 @@ row a b n (e ∷ es) r m h k =
     (λ l. row a b (suc n) es (r .1) m l (omega arith))
     (below m (suc n))
 
--- 10 to 14, and 16 to 24
+-- 10 to 14, and 16 to 25
 abbrev low : ℕ → List LexError
 low a =
     error.DanglingBlockComment ∷ error.Unexpected a ∷ error.InvalidStringElement a ∷ error.InvalidStringEscape a
@@ -50,26 +50,27 @@ low a =
 abbrev high : ℕ → ℕ → List LexError
 high a b =
     error.Expected a b ∷ error.UnexpectedEof ∷ error.NumberTooBig ∷ error.InvalidUnicodeValue a ∷ error.LoneUnderscore
-    ∷ error.ConfusingUnicode a ∷ error.InvalidUtf8Id a b ∷ error.EmptyId ∷ error.EmptyAnnotation ∷ []
+    ∷ error.ConfusingUnicode a ∷ error.InvalidUtf8Id a b ∷ error.EmptyId ∷ error.EmptyAnnotation
+    ∷ error.DoubleUnderscore ∷ []
 
 lows : (a b : ℕ) → Rows a b 10 (low a)
 lows a b = (refl, (refl, (refl, (refl, (refl, tt)))))
 
 highs : (a b : ℕ) → Rows a b 16 (high a b)
-highs a b = (refl, (refl, (refl, (refl, (refl, (refl, (refl, (refl, (refl, tt)))))))))
+highs a b = (refl, (refl, (refl, (refl, (refl, (refl, (refl, (refl, (refl, (refl, tt))))))))))
 
-named : (n a b : ℕ) → known n ≡ true → (e : LexError) × Named a b n e
-unfolding known
+named : (n a b : ℕ) → errors n ≡ true → (e : LexError) × Named a b n e
+unfolding errors
 named n a b k =
-    let i = between-true 10 24 n (and-left (between 10 24 n) (not (eqb n 15)) k) in
-    let not15 : n ≡ 15 → ⊥ = λ q. never (and-right (between 10 24 n) (not (eqb n 15)) k) (ap not (eq-eqb n 15 q)) in
+    let i = between-true 10 25 n (and-left (between 10 25 n) (not (eqb n 15)) k) in
+    let not15 : n ≡ 15 → ⊥ = λ q. never (and-right (between 10 25 n) (not (eqb n 15)) k) (ap not (eq-eqb n 15 q)) in
     ⊎-elim
     (λ l. row a b 10 (low a) (lows a b) n (omega arith) (omega arith))
     (λ l. row a b 16 (high a b) (highs a b) n (omega arith) (omega arith))
     (below n 15)
 
 -- words that pass the test of their width spell an error
-spelled : (n a b : ℕ) → known n ≡ true → wide n a b ≡ false → a < 2 ^ 64 → b < 2 ^ 64 → (e : LexError) × Spelled n a b e
+spelled : (n a b : ℕ) → errors n ≡ true → wide n a b ≡ false → a < 2 ^ 64 → b < 2 ^ 64 → (e : LexError) × Spelled n a b e
 spelled n a b k w h l =
     let r = named n a b k in
     let e = r .0 in
@@ -109,15 +110,15 @@ pub tells-by :
     (n a b c d : ℕ) {buffer left : List ℕ} {m : Told} → wide n a b ≡ false → a < 2 ^ 64 → b < 2 ^ 64
     → (a < 2 ^ 32 → c ≡ a) → (b < 2 ^ 32 → d ≡ b) → (m, left) ≡ answer n c d buffer
     → TellsBy n a b buffer m left
-tells-by n a b c d {buffer} {left} {m} w h l f g z = go (known n) refl
+tells-by n a b c d {buffer} {left} {m} w h l f g z = go (errors n) refl
   where
-    go : (x : Bool) → known n ≡ x → TellsBy n a b buffer m left
+    go : (x : Bool) → errors n ≡ x → TellsBy n a b buffer m left
     go true k =
         let s = spelled n a b k w h l .1 in TellsBy.error s (answered _ buffer z (tells-spelled n a b c d buffer f g s))
     go false k =
         subst
         (λ (x : Told × List ℕ). TellsBy n a b buffer (x .0) (x .1))
-        (untold n c d buffer (sym (unknown n c d k)) ∙ sym z)
+        (untold n c d buffer (sym (unknown n c d (no-error n k))) ∙ sym z)
         (TellsBy.none (λ e s. no-number k e (s .numbered)))
 
 -- ---- no other answer

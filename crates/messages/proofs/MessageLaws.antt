@@ -11,6 +11,7 @@ use Rattle.wat.specs.declared.LexError.{LexError}
 use Rattle.wat.specs.declared.LexError.the-variants.{DanglingBlockComment, Unexpected, InvalidStringElement, InvalidStringEscape}
 use Rattle.wat.specs.declared.LexError.the-variants.{InvalidHexDigit, Expected, UnexpectedEof, NumberTooBig, InvalidUnicodeValue}
 use Rattle.wat.specs.declared.LexError.the-variants.{LoneUnderscore, ConfusingUnicode, InvalidUtf8Id, EmptyId, EmptyAnnotation}
+use Rattle.wat.specs.declared.LexError.the-variants.{DoubleUnderscore}
 use Rattle.wat.specs.{Bytes.bytes, Bytes.between, Bytes.has, Chars.isScalar, Chars.confusing, Cases.errorNumber}
 use Rattle.wat.specs.Utf8Model.{pick}
 use Rattle.messages.specs.Messages.{named, Shown, Displays}
@@ -71,6 +72,7 @@ displays (ConfusingUnicode c) a b q t = rw q (Displays.hidden t (shown-right a (
 displays (InvalidUtf8Id v e) a b q t = Displays.id
 displays EmptyId a b q t = Displays.empty-id
 displays EmptyAnnotation a b q t = Displays.empty-annotation
+displays DoubleUnderscore a b q t = absurd (never t refl)
 
 -- and no other has one
 pub has-message :

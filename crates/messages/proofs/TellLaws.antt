@@ -1,8 +1,9 @@
 -- The model's answer is the one that `Tells` asks, of an error by its values and of a refusal by its code. Assumes nothing.
 use Prim.Native.Nat.{ℕ, _^_, _<_}
 use mathlib.Core.Path.{_≡_, refl, sym, ap, subst, _∙_}
-use mathlib.Core.Bool.{Bool, true, false}
+use mathlib.Core.Bool.{Bool, true, false, _&&_, not}
 use mathlib.Core.List.{List, [], _∷_}
+use native.Mathlib.Omega.{arith}
 use lib.Dec.{eqb, ltb}
 use lib.ListN.{length, getD}
 use borrow.Author.Tests.{ltb-true, ltb-false, eqb-false}
@@ -10,7 +11,7 @@ use Rattle.wat.specs.declared.{LexError.LexError, Refusal.Refusal}
 use Rattle.wat.specs.declared.LexError.the-variants as error
 use Rattle.wat.specs.declared.Refusal.the-variants as refusal
 use Rattle.wat.specs.{Bytes.between, Cases.errorNumber, Cases.number, Utf8Model.pick}
-use Rattle.wat.proofs.Basics.{never}
+use Rattle.wat.proofs.Basics.{between-in, between-true, never}
 use Rattle.codes.specs.declared.Code.{Code}
 use Rattle.codes.specs.Coded.{Coded}
 use Rattle.messages.specs.declared.Told.{Told}
@@ -78,8 +79,12 @@ own [] = tt
 own (c ∷ []) = refl
 own (c ∷ d ∷ vs) = (refl, refl)
 
-has-number : (e : LexError) → known (numberOf e) ≡ true
-unfolding between known
+-- the numbers of errors, those that have a message and 25
+unfoldable pub errors : ℕ → Bool
+errors n = (between 10 25 n) && (not (eqb n 15))
+
+has-number : (e : LexError) → errors (numberOf e) ≡ true
+unfolding between errors
 has-number error.DanglingBlockComment = refl
 has-number (error.Unexpected c) = refl
 has-number (error.InvalidStringElement c) = refl
@@ -94,12 +99,24 @@ has-number (error.ConfusingUnicode c) = refl
 has-number (error.InvalidUtf8Id v e) = refl
 has-number error.EmptyId = refl
 has-number error.EmptyAnnotation = refl
+has-number error.DoubleUnderscore = refl
 
-pub no-number : {n : ℕ} → known n ≡ false → (e : LexError) → numberOf e ≡ n → ⊥
-no-number k e q = never (has-number e) (ap known q ∙ k)
+pub no-number : {n : ℕ} → errors n ≡ false → (e : LexError) → numberOf e ≡ n → ⊥
+no-number k e q = never (has-number e) (ap errors q ∙ k)
 
-two-unknown : known 2 ≡ false
-unfolding between known
+pub no-error : (n : ℕ) → errors n ≡ false → known n ≡ false
+unfolding known errors
+no-error n e = go (between 10 24 n) refl
+  where
+    go : (b : Bool) → between 10 24 n ≡ b → known n ≡ false
+    go true h =
+        let i = between-true 10 24 n h in
+        let f : not (eqb n 15) ≡ false = rw (between-in 10 25 n (omega arith) (omega arith), errors) at e in
+        rw (h, f)
+    go false h = rw h
+
+two-unknown : errors 2 ≡ false
+unfolding between errors
 two-unknown = refl
 
 -- a and b are the values of a code, where they are of 32 bits
@@ -117,19 +134,19 @@ module _ {c : Code} {a b : ℕ} (p : c .first < 2 ^ 32 → a ≡ c .first) (q : 
   coded d z = z ∙ ap (λ (n : ℕ). answer n a b buffer) (d .numbered)
 
   other :
-      {left : List ℕ} {m : Told} (r : Refusal) → known (number r .0) ≡ false → Coded (number r) c
+      {left : List ℕ} {m : Told} (r : Refusal) → errors (number r .0) ≡ false → Coded (number r) c
       → (m, left) ≡ answer (c .number) a b buffer → Tells r buffer m left
   other r k d z =
       answered
       r
       buffer
-      (coded d z ∙ sym (untold (number r .0) a b buffer (sym (unknown (number r .0) a b k))))
+      (coded d z ∙ sym (untold (number r .0) a b buffer (sym (unknown (number r .0) a b (no-error (number r .0) k)))))
       (Tells.none (λ e t x y. no-number k e (sym (ap (λ (s : Refusal). number s .0) x))))
 
   pub tells-refusal :
       {left : List ℕ} {m : Told} (r : Refusal) → Coded (number r) c → (m, left) ≡ answer (c .number) a b buffer
       → Tells r buffer m left
-  unfolding between known
+  unfolding between errors
   tells-refusal refusal.TooLong d z = other refusal.TooLong refl d z
   tells-refusal (refusal.NotUtf8 v e) d z = other (refusal.NotUtf8 v e) refl d z
   tells-refusal refusal.PastEnd d z = other refusal.PastEnd refl d z

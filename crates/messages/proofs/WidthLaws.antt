@@ -36,6 +36,7 @@ carried (error.ConfusingUnicode c) a b = Carried.one refl refl
 carried (error.InvalidUtf8Id v e) a b = Carried.lengths refl refl
 carried error.EmptyId a b = Carried.none refl
 carried error.EmptyAnnotation a b = Carried.none refl
+carried error.DoubleUnderscore a b = Carried.none refl
 
 -- a and b have room in the fields of an error that carries k values
 abbrev pub Room : ℕ → ℕ → ℕ → ℕ → Type 0

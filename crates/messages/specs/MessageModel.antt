@@ -11,7 +11,7 @@ use Rattle.messages.specs.declared.Told.the-variants.{Refused, Written}
 use Rattle.wat.specs.{Bytes.bytes, Bytes.between, Chars.isScalar, Chars.confusing}
 use Rattle.messages.specs.Spelled.{hex, shown, lead}
 
--- the numbers of errors; 15, `InvalidDigit`, is none's
+-- the numbers of errors that have a message, those of the Rust; 15, `InvalidDigit`, it builds nowhere
 unfoldable pub known : ℕ → Bool
 known n = (between 10 24 n) && (not (eqb n 15))
 

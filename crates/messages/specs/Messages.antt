@@ -35,7 +35,8 @@ pub data Shown : ℕ → List ℕ → Type 0 where
   number : {c : ℕ} {s : List ℕ} → isScalar c ≡ true → between 0x20 0x7E c ≡ false
       → ((l : ℕ) → List·Memᴰ (c, l) named → ⊥) → Hexed c s → Shown c (bytes "\\u{" ++ (s ++ bytes "}"))
 
--- the message of an error. It has none if its character is no scalar value, or a confusing one that is none of the nine
+-- the message of an error. It has none if its character is no scalar value, or a confusing one that is none of the nine;
+-- and 25 has none, which the Rust does not know
 pub data Displays : LexError → List ℕ → Type 0 where
   dangling : Displays DanglingBlockComment (bytes "unterminated block comment")
   unexpected : {c : ℕ} {s : List ℕ} → Shown c s

@@ -99,7 +99,7 @@ fn rest(number: u64, first: u32, second: u32, out: &mut [u8], at: usize) -> usiz
     }
 }
 
-// 15, `InvalidDigit`, is no error's number.
+// An error of the Rust, which has a message: 15, `InvalidDigit`, it builds nowhere, and 25 it does not know.
 fn is_error(number: u64) -> bool
     ensures { λ r. ⌜ r ≡ known number ⌝ }
 {

@@ -8,7 +8,9 @@ use lib.ListN.{length, take, drop, getD}
 use denote.Ref.{RefT, ptr, now}
 use Rattle.wat.specs.declared.{Answer.Answer, TokenKind.TokenKind, Checked.Checked, Found.Found, Parsed.Parsed, Listed.Listed}
 use Rattle.wat.specs.declared.{Refusal.Refusal, Token.Token, Settings.Settings}
-use Rattle.wat.specs.declared.{Fault.Fault, LexError.the-variants.UnexpectedEof}
+use Rattle.wat.specs.declared.{Fault.Fault, LexError.the-variants.UnexpectedEof, LexError.the-variants.DoubleUnderscore}
+use Rattle.wat.specs.declared.Refusal.the-variants.{Lexical}
+use Rattle.wat.specs.declared.Found.the-variants as found
 use Rattle.wat.specs.declared.Answer.the-variants as answer
 use Rattle.wat.specs.declared.Stop.the-variants as stop
 use Rattle.wat_values.specs.declared.{Reading.Reading, IntegerSign.IntegerSign, IntegerValue.IntegerValue, FloatSign.FloatSign}
@@ -18,13 +20,14 @@ use Rattle.messages.specs.declared.Told.{Told}
 use Rattle.place.specs.declared.{Place.Place, Moved.Moved}
 use Rattle.wat.specs.Settings.{lenient}
 use Rattle.wat.specs.Utf8.{WellFormed, Says}
+use Rattle.wat.specs.Strings.{HexNum, Elem}
 use Rattle.wat.specs.Tokens.{Tok}
 use Rattle.wat.specs.Lexing.{Lexed}
 use Rattle.wat.specs.Calls.{Stands, Parses, Annotates, at}
 use Rattle.wat.specs.Division.{Piece, lengths, Divided, Walked, recordSize, records, Listing}
 use Rattle.wat.specs.LexModel.{lex}
 use Rattle.wat_values.specs.Values.{Reader, Value, Reads}
-use Rattle.wat_values.specs.Reading.{Read, Second, ReadsSign, ReadsNegative}
+use Rattle.wat_values.specs.Reading.{There, Read, Second, ReadsSign, ReadsNegative}
 use Rattle.wat_values.specs.Integers.{ReadsWord}
 use Rattle.wat_forms.specs.Forms.{Folds}
 use Rattle.wat_forms.specs.Balance.{WholeForm, Structural}
@@ -41,6 +44,8 @@ use Rattle.c_read_words.specs.Words.{integerWords}
 use Rattle.wat.proofs.OneKind as kinds
 use Rattle.wat.proofs.Unique as unique
 use Rattle.wat.proofs.Utf8Laws as utf8
+use Rattle.wat.proofs.StandardStrings as standard
+use Rattle.wat.proofs.StandardStrings.{Hexnum, Stringelem}
 use Rattle.wat_laws.proofs.Total as total
 use Rattle.wat_laws.proofs.Answers as answers
 use Rattle.wat_laws.proofs.OneCall as calls
@@ -48,6 +53,7 @@ use Rattle.wat.specs.Whole.{Division, Whole}
 use Rattle.wat_laws.proofs.Divisions as divisions
 use Rattle.wat_laws.proofs.Listings as listings
 use Rattle.wat_values.specs.Readable.{Passes}
+use Rattle.wat_laws.specs.Looser.{Looser, unstrict}
 use Rattle.wat_laws.specs.Windows.{Paused, Decided, DecidedStop, movedParsed, movedListed}
 use Rattle.thallusweb.specs.Promises.{ListedWords}
 use Rattle.thallusweb.specs.ReadableWords.{PassesWords}
@@ -55,9 +61,11 @@ use Rattle.wat_laws.proofs.ListingRoom as room
 use Rattle.wat_laws.proofs.ListingCompose as compose
 use Rattle.wat_laws.proofs.RecordLaws as decoded
 use Rattle.wat_laws.proofs.FaultPlaces as places
+use Rattle.wat_laws.proofs.StrictCalls as strict
 use Rattle.wat_laws.proofs.Slices as slices
 use Rattle.thallusweb.proofs.PassWords as words
 use Rattle.wat_values.proofs.Readable as readable
+use Rattle.wat_values.proofs.HandedOut as handed
 use Rattle.wat_values.proofs.OneValue as values
 use Rattle.wat_values.proofs.OneReading as reading
 use Rattle.wat_values.proofs.IntegerLaws as integers
@@ -69,6 +77,7 @@ use Rattle.wat_lines.proofs.LineLaws as lines
 use Rattle.c_spots.proofs.SpotLaws as spots
 use Rattle.wat_forms.proofs.FoldLaws as folding
 use Rattle.wat_forms.proofs.InnerForms as inner
+use Rattle.wat_forms.proofs.StrictFolds as strict-forms
 use Rattle.wat_forms.proofs.FoldWindows as pieces
 use Rattle.c_words.proofs.FoldTell as told
 use Rattle.c_read_words.proofs.TellLaws as tell
@@ -120,7 +129,7 @@ pub records-one : (s s′ : List ℕ) (ts us : List Piece) → lengths ts < 2 ^ 
     → records s ts ≡ records s′ us → ts ≡ us
 records-one s s′ ts us h k e = decoded.records-one s s′ ts us h k e
 
--- The position after 10 to 21 is a character boundary of the text, so that the next call is not refused by 3 or 4.
+-- The position after 10 to 21 and 25 is a character boundary of the text, so that the next call is not refused by 3 or 4.
 pub fault-stands : {σ : Settings} {text : List ℕ} {at : ℕ} {f : Fault} → Stands text at
     → Lexed σ (drop at text) (answer.Fault f) → Stands text (at + f .after)
 fault-stands s l = places.fault-stands s l
@@ -138,7 +147,7 @@ pub folds-whole : {σ : Settings} {text : List ℕ} {start end : ℕ} → Folds 
     → WholeForm σ text start end
 folds-whole f = inner.folds-whole f
 
--- What folds with a setting off folds to the same place with everything allowed.
+-- What folds under some settings folds to the same place with everything allowed.
 pub folds-lenient : {σ : Settings} {text : List ℕ} {start end : ℕ} → Folds σ text start (folded.Past end)
     → Folds lenient text start (folded.Past end)
 folds-lenient f = inner.folds-lenient f
@@ -192,7 +201,12 @@ lexed σ w = total.lexed σ w
 pub one-kind : {k j : TokenKind} {w : List ℕ} → Tok k w → Tok j w → k ≡ j
 one-kind p q = kinds.one-kind p q
 
--- What is a token with a setting off is the same token with everything allowed,
+-- What is a token under some settings is the same token under looser ones, and so
+pub lexed-looser : {σ τ : Settings} {s : List ℕ} {k : TokenKind} {n : ℕ} → Looser σ τ → WellFormed s
+    → Lexed σ s (answer.Token k n) → Lexed τ s (answer.Token k n)
+lexed-looser o w l = answers.lexed-looser o w l
+
+-- with everything allowed, as readers lex: with confusing characters, and without strict digits;
 pub lexed-lenient : {σ : Settings} {s : List ℕ} {k : TokenKind} {n : ℕ} → WellFormed s
     → Lexed σ s (answer.Token k n) → Lexed lenient s (answer.Token k n)
 lexed-lenient w l = answers.lexed-lenient w l
@@ -206,6 +220,50 @@ lexed-alone w l = answers.lexed-alone w l
 pub same-rest : (σ : Settings) {x y : List ℕ} {p q : ℕ} → Stands x p → Stands y q → drop p x ≡ drop q y
     → (a : Answer) × Parses σ x p (at p a) × Parses σ y q (at q a)
 same-rest σ s t e = calls.same-rest σ s t e
+
+-- ---- strict digits
+
+-- With strict digits the number of a `\u{..}` is the standard's hexnum: there is no other,
+pub hexnum-standard : {σ : Settings} {ds : List ℕ} {n : ℕ} → σ .«strict_digits» ≡ true → HexNum σ ds n → Hexnum ds n
+hexnum-standard e r = standard.hexnum-standard e r
+
+-- and each is one, without them too.
+pub standard-hexnum : {σ : Settings} {ds : List ℕ} {n : ℕ} → Hexnum ds n → HexNum σ ds n
+standard-hexnum r = standard.standard-hexnum r
+
+-- So is an element of a string with the standard's, where confusing characters are allowed.
+pub strict-standard : {σ : Settings} {s v : List ℕ} → σ .«strict_digits» ≡ true → Elem σ s v → Stringelem s v
+strict-standard e x = standard.strict-standard e x
+
+pub standard-element : {σ : Settings} {s v : List ℕ} → σ .«allow_confusing» ≡ true → Stringelem s v → Elem σ s v
+standard-element e x = standard.standard-element e x
+
+-- A token that a call hands out, with them or without, is there for the readers, who lex without them: they do not refuse it by 30.
+pub parses-there : {σ : Settings} {text : List ℕ} {pos : ℕ} {r : Parsed} {t : Token} → Parses σ text pos r
+    → r .found ≡ found.Token t → There text t
+parses-there x e = handed.parses-there x e
+
+pub annotates-there : {σ : Settings} {text : List ℕ} {pos : ℕ} {r : Found} {t : Token} → Annotates σ text pos r
+    → r ≡ found.Token t → There text t
+annotates-there x e = handed.annotates-there x e
+
+-- They decide this one point: what a call answers with them, if it is not 25, it answers without them.
+pub parses-unstrict : {σ : Settings} {text : List ℕ} {pos : ℕ} {r : Parsed} → Parses σ text pos r
+    → ((p : ℕ) → r .found ≡ found.Refused (Lexical DoubleUnderscore) p → ⊥) → Parses (unstrict σ) text pos r
+parses-unstrict x n = strict.parses-unstrict x n
+
+pub annotates-unstrict : {σ : Settings} {text : List ℕ} {pos : ℕ} {r : Found} → Annotates σ text pos r
+    → ((p : ℕ) → r ≡ found.Refused (Lexical DoubleUnderscore) p → ⊥) → Annotates (unstrict σ) text pos r
+annotates-unstrict x n = strict.annotates-unstrict x n
+
+pub listing-unstrict : {σ : Settings} {text : List ℕ} {start budget : ℕ} {list l : List ℕ} {r : Listed}
+    → Listing σ text start budget list r l → ((p : ℕ) → r .stop ≡ stop.Refused (Lexical DoubleUnderscore) p → ⊥)
+    → Listing (unstrict σ) text start budget list r l
+listing-unstrict x n = strict.listing-unstrict x n
+
+pub folds-unstrict : {σ : Settings} {text : List ℕ} {pos : ℕ} {a : Folded} → Folds σ text pos a
+    → ((p : ℕ) → a ≡ folded.Refused (Lexical DoubleUnderscore) p → ⊥) → Folds (unstrict σ) text pos a
+folds-unstrict x n = strict-forms.folds-unstrict x n
 
 -- ---- each call has one answer, lent bytes included
 

@@ -13,11 +13,11 @@ use Rattle.wat.specs.Faults.{fault}
 use Rattle.wat.specs.declared.LexError.{LexError}
 use Rattle.wat.specs.declared.LexError.the-variants.{InvalidStringElement, InvalidStringEscape, InvalidHexDigit, Expected}
 use Rattle.wat.specs.declared.LexError.the-variants.{UnexpectedEof, NumberTooBig, LoneUnderscore}
-use Rattle.wat.specs.declared.LexError.the-variants.{ConfusingUnicode}
+use Rattle.wat.specs.declared.LexError.the-variants.{ConfusingUnicode, DoubleUnderscore}
 use Rattle.wat.specs.declared.Settings.{Settings}
 use Rattle.wat.specs.Utf8.{Char, scalar}
 use Rattle.wat.specs.Chars.{control, confusing, isScalar}
-use Rattle.wat.specs.Strings.{Hex, HexNum, escapes}
+use Rattle.wat.specs.Strings.{Hex, Gap, HexNum, escapes}
 use Rattle.wat.specs.Numbers.{digit}
 use Rattle.wat.specs.StringFaults.{listed, escaping, goingOn, NumberEnds, Fits32, Awaits, Bad}
 use Rattle.wat.specs.StringModel.{hexOf, letterOf, element, refused, closeBy, numberBy}
@@ -28,7 +28,7 @@ use Rattle.wat.proofs.Utf8Laws.{chars-meet}
 use Rattle.wat.proofs.HexDigits.{hex-ascii, no-hex, no-digit, goes-split, GoesOn}
 use Rattle.wat.proofs.HexDigits.{not-digit, digit-not, digit-yes, tested-digit, ends-not, not-ends}
 use Rattle.wat.proofs.Hexnums.{on-big, on-stop}
-use Rattle.wat.proofs.Hexnums.{any, under, unders, alone}
+use Rattle.wat.proofs.Hexnums.{any, gap-any, under, under-twice, unders, alone}
 use Rattle.wat.proofs.Basics.{fault-same, never, or-no, or-split}
 use Rattle.wat.proofs.Basics.{has-every, fault-same}
 use Rattle.wat.proofs.ElementReads.{hidden-is, read-char, read-slash, read-end, read-u, read-brace, unlisted, not-listed}
@@ -133,28 +133,37 @@ module _ (σ : Settings) where
   unfolding firstBy
   bad-first c u ch f = read-brace σ (c ++ u) ∙ rw (peek-char c u ch, no-hex (scalar c) (not-digit (scalar c) f), firstBy)
 
-  bad-big : {ds : List ℕ} {n d m : ℕ} (k : ℕ) (u : List ℕ) → HexNum σ ds n → Fits32 n → Hex d m
+  bad-big : {ds : List ℕ} {n d m : ℕ} (k : ℕ) (u : List ℕ) → Gap σ k → HexNum σ ds n → Fits32 n → Hex d m
       → (Fits32 (n * 16 + m) → ⊥)
       → read σ (0x5C ∷ 0x75 ∷ 0x7B ∷ ((ds ++ replicate k 0x5F) ++ (d ∷ u)))
       ≡ refused (fault NumberTooBig (3 + (length ds + k)) (4 + (length ds + k)))
   unfolding numberBy
-  bad-big {ds} {n} {d} k u r f h g =
+  bad-big {ds} {n} {d} k u p r f h g =
       ap (λ (l : List ℕ). read σ (0x5C ∷ 0x75 ∷ 0x7B ∷ l)) (append-assoc ds (replicate k 0x5F) (d ∷ u))
       ∙ read-digits σ (replicate k 0x5F ++ (d ∷ u)) r f
-      ∙ rw (unders σ k false n (length ds) (d ∷ u), on-big σ (any false k) n (length ds + k) u h g)
+      ∙ rw (unders σ k n (length ds) (d ∷ u) p, on-big σ (any k) n (length ds + k) u h g)
 
-  bad-lone : {ds : List ℕ} {n : ℕ} (k : ℕ) (u : List ℕ) → HexNum σ ds n → Fits32 n → NumberEnds u
+  bad-lone : {ds : List ℕ} {n : ℕ} (k : ℕ) (u : List ℕ) → Gap σ (k + 1) → HexNum σ ds n → Fits32 n → NumberEnds u
       → read σ (0x5C ∷ 0x75 ∷ 0x7B ∷ ((ds ++ replicate k 0x5F) ++ (0x5F ∷ u)))
       ≡ refused (fault LoneUnderscore (3 + (length ds + k)) (3 + suc (length ds + k)))
   unfolding numberBy
-  bad-lone {ds} {n} k u r f g =
+  bad-lone {ds} {n} k u p r f g =
       ap (λ (l : List ℕ). read σ (0x5C ∷ 0x75 ∷ 0x7B ∷ l)) (append-assoc ds (replicate k 0x5F) (0x5F ∷ u))
       ∙ read-digits σ (replicate k 0x5F ++ (0x5F ∷ u)) r f
       ∙ rw (
-        unders σ k false n (length ds) (0x5F ∷ u),
-        under σ (any false k) n (length ds + k) u,
+        unders σ k n (length ds) (0x5F ∷ u) (λ s. omega (arith, p s)),
+        under σ (any k) n (length ds + k) u (gap-any σ k p),
         on-stop σ true n (suc (length ds + k)) u (ends-not g),
       )
+
+  bad-double : {ds : List ℕ} {n : ℕ} (u : List ℕ) → σ .«strict_digits» ≡ true → HexNum σ ds n → Fits32 n
+      → read σ (0x5C ∷ 0x75 ∷ 0x7B ∷ ((ds ++ (0x5F ∷ [])) ++ (0x5F ∷ u)))
+      ≡ refused (fault DoubleUnderscore (3 + suc (length ds)) (4 + suc (length ds)))
+  unfolding numberBy
+  bad-double {ds} {n} u e r f =
+      ap (λ (l : List ℕ). read σ (0x5C ∷ 0x75 ∷ 0x7B ∷ l)) (append-assoc ds (0x5F ∷ []) (0x5F ∷ u))
+      ∙ read-digits σ (0x5F ∷ 0x5F ∷ u) r f
+      ∙ rw (under σ false n (length ds) (0x5F ∷ u) refl, under-twice σ true n (suc (length ds)) u e)
 
   bad-close : {ds : List ℕ} {n : ℕ} (c u : List ℕ) → HexNum σ ds n → isScalar n ≡ true → Char c
       → goingOn (scalar c) || eqb (scalar c) 0x7D ≡ false
@@ -191,12 +200,14 @@ module _ (σ : Settings) where
   bad-read (Bad.other {at = c} {rest = u} a ch f) = other-read c u a ch f
   bad-read (Bad.end a) = end-read a
   bad-read (Bad.hidden {at = c} {rest = u} ch e f) = bad-hidden c u ch e f ∙ refused-same _ refl (omega arith)
-  bad-read (Bad.big {ds = ds} {rest = u} k r f h g) =
+  bad-read (Bad.big {ds = ds} {rest = u} k p r f h g) =
       let l = length-append ds (replicate k 0x5F) in let m = length-replicate {A = ℕ} k 0x5F in
-      bad-big k u r f h g ∙ refused-same _ (omega arith) (omega arith)
-  bad-read (Bad.lone {ds = ds} {rest = u} k r f g) =
+      bad-big k u p r f h g ∙ refused-same _ (omega arith) (omega arith)
+  bad-read (Bad.lone {ds = ds} {rest = u} k p r f g) =
       let l = length-append ds (replicate k 0x5F) in let m = length-replicate {A = ℕ} k 0x5F in
-      bad-lone k u r f g ∙ refused-same _ (omega arith) (omega arith)
+      bad-lone k u p r f g ∙ refused-same _ (omega arith) (omega arith)
+  bad-read (Bad.double {ds = ds} {rest = u} e r f) =
+      let l = length-append ds (0x5F ∷ []) in bad-double u e r f ∙ refused-same _ (omega arith) (omega arith)
   bad-read (Bad.value {ds = ds} {rest = u} {d = d} {n = n} r f e g) =
       let l = length-append ds (d ∷ []) in
       ap (λ (l : List ℕ). read σ (0x5C ∷ 0x75 ∷ 0x7B ∷ l)) (sym (append-assoc ds (d ∷ []) u))

@@ -163,7 +163,7 @@ module _ (σ : Settings) where
       → firstBy σ (peek (ds ++ x)) ≡ numberBy (ds ++ x) (numbered σ (ds ++ x))
   unfolding firstBy scalar
   read-number x (HexNum.one {d = b} h) = rw (peek-ascii b x (hex-ascii h), hex-of h, firstBy, numbered)
-  read-number x (HexNum.more {ds = ds} {d = d} k r h) =
+  read-number x (HexNum.more {ds = ds} {d = d} k g r h) =
       let e : (ds ++ (replicate k 0x5F ++ (d ∷ []))) ++ x ≡ ds ++ ((replicate k 0x5F ++ (d ∷ [])) ++ x) =
       append-assoc ds (replicate k 0x5F ++ (d ∷ [])) x in
       ap (λ (l : List ℕ). firstBy σ (peek l)) e ∙ read-number ((replicate k 0x5F ++ (d ∷ [])) ++ x) r

@@ -1,4 +1,5 @@
--- The standard's string elements, one by one, where ours are shaped otherwise: the two say the same. Assumes nothing.
+-- The standard's string elements, one by one, where ours are shaped otherwise: the two say the same where confusing
+-- characters are allowed and digits are strict. Assumes nothing.
 use Prim.Native.Nat.{ℕ, zero, suc, _+_, _*_, _≤_}
 use mathlib.Core.Path.{_≡_, refl}
 use mathlib.Core.Bool.{Bool, true, false, _||_}
@@ -7,7 +8,7 @@ use native.Mathlib.Omega.{arith}
 use lib.Dec.{ltb, eqb}
 use borrow.Author.Tests.{ltb-false, le-ltb, ne-eqb, eqb-false}
 use Rattle.wat.specs.Bytes.{bytes, byte}
-use Rattle.wat.specs.Settings.{lenient}
+use Rattle.wat.specs.declared.Settings.{Settings}
 use Rattle.wat.specs.Utf8.{Char, scalar}
 use Rattle.wat.specs.Chars.{control}
 use Rattle.wat.specs.Strings.{Hex, HexNum, escapes, Elem}
@@ -36,48 +37,58 @@ pub data Stringelem : List ℕ → List ℕ → Type 0 where
   char : {s v : List ℕ} → Stringchar s v → Stringelem s v
   pair : {h l n m : ℕ} → Hex h n → Hex l m → Stringelem (byte "\\" ∷ h ∷ l ∷ []) ((n * 16 + m) ∷ [])
 
-hexnum-ours : {ds : List ℕ} {n : ℕ} → Hexnum ds n → HexNum lenient ds n
-hexnum-ours (Hexnum.one h) = HexNum.one h
-hexnum-ours (Hexnum.more r h) = HexNum.more 0 (hexnum-ours r) h
-hexnum-ours (Hexnum.gap r h) = HexNum.more 1 (hexnum-ours r) h
+-- under any settings
+pub standard-hexnum : {σ : Settings} {ds : List ℕ} {n : ℕ} → Hexnum ds n → HexNum σ ds n
+standard-hexnum (Hexnum.one h) = HexNum.one h
+standard-hexnum (Hexnum.more r h) = HexNum.more 0 (λ e. omega arith) (standard-hexnum r) h
+standard-hexnum (Hexnum.gap r h) = HexNum.more 1 (λ e. omega arith) (standard-hexnum r) h
 
 control-not : (n : ℕ) → 0x20 ≤ n → (n ≡ 0x7F → ⊥) → control n ≡ false
 unfolding control
 control-not n h k = rw (le-ltb n 0x20 h, ne-eqb n 0x7F k)
 
 -- what the standard has, we have
-pub standard-element : {s v : List ℕ} → Stringelem s v → Elem lenient s v
+pub standard-element : {σ : Settings} {s v : List ℕ} → σ .«allow_confusing» ≡ true → Stringelem s v → Elem σ s v
 unfolding escapes
-standard-element (Stringelem.char (Stringchar.raw {c = c} ch h k p q)) = Elem.raw ch (control-not (scalar c) h k) p q (λ e. differ (cc))
-standard-element (Stringelem.char Stringchar.tab) = Elem.letter (List·Memᴰ·head refl)
-standard-element (Stringelem.char Stringchar.line-feed) = Elem.letter (List·Memᴰ·tail (List·Memᴰ·head refl))
-standard-element (Stringelem.char Stringchar.return) = Elem.letter (List·Memᴰ·tail (List·Memᴰ·tail (List·Memᴰ·head refl)))
-standard-element (Stringelem.char Stringchar.quotation) =
+standard-element a (Stringelem.char (Stringchar.raw {c = c} ch h k p q)) =
+    Elem.raw ch (control-not (scalar c) h k) p q (λ e. absurd (never a e))
+standard-element a (Stringelem.char Stringchar.tab) = Elem.letter (List·Memᴰ·head refl)
+standard-element a (Stringelem.char Stringchar.line-feed) = Elem.letter (List·Memᴰ·tail (List·Memᴰ·head refl))
+standard-element a (Stringelem.char Stringchar.return) = Elem.letter (List·Memᴰ·tail (List·Memᴰ·tail (List·Memᴰ·head refl)))
+standard-element a (Stringelem.char Stringchar.quotation) =
     Elem.letter (List·Memᴰ·tail (List·Memᴰ·tail (List·Memᴰ·tail (List·Memᴰ·head refl))))
-standard-element (Stringelem.char Stringchar.apostrophe) =
+standard-element a (Stringelem.char Stringchar.apostrophe) =
     Elem.letter (List·Memᴰ·tail (List·Memᴰ·tail (List·Memᴰ·tail (List·Memᴰ·tail (List·Memᴰ·head refl)))))
-standard-element (Stringelem.char Stringchar.backslash) =
+standard-element a (Stringelem.char Stringchar.backslash) =
     Elem.letter (List·Memᴰ·tail
     (List·Memᴰ·tail (List·Memᴰ·tail (List·Memᴰ·tail (List·Memᴰ·tail (List·Memᴰ·head refl))))))
-standard-element (Stringelem.char (Stringchar.unicode r ch)) = Elem.unicode (hexnum-ours r) ch
-standard-element (Stringelem.pair h l) = Elem.pair h l
+standard-element a (Stringelem.char (Stringchar.unicode r ch)) = Elem.unicode (standard-hexnum r) ch
+standard-element a (Stringelem.pair h l) = Elem.pair h l
 
 -- and what we have the standard has, where no two underscores stand together in a `\u{..}`: rule 5's one difference
-abbrev pub Single : {ds : List ℕ} {n : ℕ} → HexNum lenient ds n → Type 0
+abbrev pub Single : {σ : Settings} {ds : List ℕ} {n : ℕ} → HexNum σ ds n → Type 0
 Single (HexNum.one h) = Unit {0}
-Single (HexNum.more k r h) = (k ≤ 1) × Single r
+Single (HexNum.more k g r h) = (k ≤ 1) × Single r
 
-abbrev pub Singles : {s v : List ℕ} → Elem lenient s v → Type 0
+abbrev pub Singles : {σ : Settings} {s v : List ℕ} → Elem σ s v → Type 0
 Singles (Elem.raw c n p q h) = Unit {0}
 Singles (Elem.letter m) = Unit {0}
 Singles (Elem.pair h l) = Unit {0}
 Singles (Elem.unicode r c) = Single r
 
-ours-hexnum : {ds : List ℕ} {n : ℕ} (r : HexNum lenient ds n) → Single r → Hexnum ds n
-ours-hexnum (HexNum.one h) s = Hexnum.one h
-ours-hexnum (HexNum.more zero r h) s = Hexnum.more (ours-hexnum r (s .1)) h
-ours-hexnum (HexNum.more (suc zero) r h) s = Hexnum.gap (ours-hexnum r (s .1)) h
-ours-hexnum (HexNum.more (suc (suc k)) r h) s = absurd (omega (arith, s .0))
+single-hexnum : {σ : Settings} {ds : List ℕ} {n : ℕ} (r : HexNum σ ds n) → Single r → Hexnum ds n
+single-hexnum (HexNum.one h) s = Hexnum.one h
+single-hexnum (HexNum.more zero g r h) s = Hexnum.more (single-hexnum r (s .1)) h
+single-hexnum (HexNum.more (suc zero) g r h) s = Hexnum.gap (single-hexnum r (s .1)) h
+single-hexnum (HexNum.more (suc (suc k)) g r h) s = absurd (omega (arith, s .0))
+
+-- where digits are strict none do, so that a number is the standard's
+strict-single : {σ : Settings} {ds : List ℕ} {n : ℕ} → σ .«strict_digits» ≡ true → (r : HexNum σ ds n) → Single r
+strict-single e (HexNum.one h) = tt
+strict-single e (HexNum.more k g r h) = (g e, strict-single e r)
+
+pub hexnum-standard : {σ : Settings} {ds : List ℕ} {n : ℕ} → σ .«strict_digits» ≡ true → HexNum σ ds n → Hexnum ds n
+hexnum-standard e r = single-hexnum r (strict-single e r)
 
 lettered : AllPairs (λ e v. Stringelem (0x5C ∷ e ∷ []) (v ∷ [])) escapes
 unfolding escapes
@@ -101,8 +112,17 @@ from-space n e = go (ltb n 0x20) (eqb n 0x7F) refl refl e
     go false true p q e = absurd (never refl e)
     go false false p q e = (ltb-false n 0x20 p, eqb-false n 0x7F q)
 
-pub element-standard : {s v : List ℕ} (x : Elem lenient s v) → Singles x → Stringelem s v
+pub element-standard : {σ : Settings} {s v : List ℕ} (x : Elem σ s v) → Singles x → Stringelem s v
 element-standard (Elem.raw {c = c} ch n p q h) s = let f = from-space (scalar c) n in Stringelem.char (Stringchar.raw ch (f .0) (f .1) p q)
 element-standard (Elem.letter m) s = pairs-listed (λ e v. Stringelem (0x5C ∷ e ∷ []) (v ∷ [])) escapes lettered m
 element-standard (Elem.pair h l) s = Stringelem.pair h l
-element-standard (Elem.unicode r ch) s = Stringelem.char (Stringchar.unicode (ours-hexnum r s) ch)
+element-standard (Elem.unicode r ch) s = Stringelem.char (Stringchar.unicode (single-hexnum r s) ch)
+
+strict-singles : {σ : Settings} {s v : List ℕ} → σ .«strict_digits» ≡ true → (x : Elem σ s v) → Singles x
+strict-singles e (Elem.raw c n p q h) = tt
+strict-singles e (Elem.letter m) = tt
+strict-singles e (Elem.pair h l) = tt
+strict-singles e (Elem.unicode r c) = strict-single e r
+
+pub strict-standard : {σ : Settings} {s v : List ℕ} → σ .«strict_digits» ≡ true → Elem σ s v → Stringelem s v
+strict-standard e x = element-standard x (strict-singles e x)

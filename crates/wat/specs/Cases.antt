@@ -55,6 +55,7 @@ errorNumber (error.ConfusingUnicode c) = (21, c ∷ [])
 errorNumber (error.InvalidUtf8Id v e) = (22, v ∷ e ∷ [])
 errorNumber error.EmptyId = (23, [])
 errorNumber error.EmptyAnnotation = (24, [])
+errorNumber error.DoubleUnderscore = (25, [])
 
 abbrev pub number : Refusal → ℕ × List ℕ
 number refusal.TooLong = (1, [])

@@ -41,6 +41,11 @@ opens-by-one {s = s} {n = n} (Lexed.token l f) =
 starts : (x : ℕ) (s : List ℕ) (n : ℕ) → take n s ≡ x ∷ [] → (t : List ℕ) × (s ≡ x ∷ t)
 starts x s n e = (drop n s, sym (take-append-drop n s) ∙ ap (λ (z : List ℕ). z ++ drop n s) e)
 
+-- an opening's text begins with `(`
+pub opens-with : {σ : Settings} {s : List ℕ} {n : ℕ} → Lexed σ s (answer.Token kind.LParen n)
+    → (t : List ℕ) × (s ≡ byte "(" ∷ t)
+opens-with {s = s} {n = n} (Lexed.token l f) = starts (byte "(") s n (open-bytes (tok-shape (l .is)))
+
 lex-close : (σ : Settings) (t : List ℕ) → lex σ (byte ")" ∷ t) ≡ answer.Token kind.RParen 1
 unfolding lex
 lex-close σ t = ap (λ (f : Family). lexBy σ f (byte ")" ∷ t)) family-close
@@ -91,7 +96,7 @@ open-front (x ∷ []) u g h b l = absurd (omega arith)
 open-front {σ} {m} (x ∷ y ∷ t) u g h b (Lexed.token l f) = go (eqb y (byte ";")) refl
   where
     first : x ≡ byte "("
-    first = let e = starts (byte "(") (x ∷ y ∷ (t ++ u)) m (open-bytes (tok-shape (l .is))) .1 in cc
+    first = let e = opens-with (Lexed.token l f) .1 in cc
 
     go : (b : Bool) → eqb y (byte ";") ≡ b → Lexed σ (x ∷ y ∷ t) (answer.Token kind.LParen 1)
     go true e =
@@ -109,8 +114,9 @@ open-front {σ} {m} (x ∷ y ∷ t) u g h b (Lexed.token l f) = go (eqb y (byte 
 bad-near : {σ : Settings} {p c u : List ℕ} {e : LexError} → Bad σ p c u e → length c ≤ 4
 bad-near (Bad.other a ch t) = char-short ch
 bad-near (Bad.end a) = omega arith
-bad-near (Bad.big k r f h n) = omega arith
-bad-near (Bad.lone k r f n) = omega arith
+bad-near (Bad.big k p r f h n) = omega arith
+bad-near (Bad.lone k p r f n) = omega arith
+bad-near (Bad.double e r f) = omega arith
 bad-near (Bad.value r f n e) = omega arith
 bad-near (Bad.hidden ch e f) = char-short ch
 

@@ -1,4 +1,4 @@
--- A form that folds is balanced, each form that is met in it folds, and ends inside it; with everything allowed it folds to
+-- A form that folds is balanced, each form that is met in it folds, and ends inside it; under looser settings it folds to
 -- the same place; and in a text that is divided to its end no error of lexing is answered. Assumes nothing.
 use Prim.Native.Nat.{ℕ, _+_, _≤_, _<_}
 use mathlib.Core.Path.{_≡_, refl, sym, ap, _∙_, subst}
@@ -11,11 +11,12 @@ use Rattle.wat.specs.declared.TokenKind.the-variants as kind
 use Rattle.wat.specs.declared.Answer.the-variants as answer
 use Rattle.wat_forms.specs.declared.Folded.{Folded}
 use Rattle.wat_forms.specs.declared.Folded.the-variants as folded
-use Rattle.wat.specs.{Settings.lenient, Utf8.WellFormed, Lexing.Lexed, Division.Piece, Division.lengths, Division.Divided, Division.Walked}
-use Rattle.wat.proofs.{Basics.differ, Unique.lexed-one, Boundaries.token-formed}
-use Rattle.wat_laws.proofs.Answers.{lexed-lenient}
+use Rattle.wat.specs.{Settings.lenient, Lexing.Lexed, Division.Piece, Division.lengths, Division.Divided, Division.Walked}
+use Rattle.wat.proofs.{Basics.differ, Unique.lexed-one}
+use Rattle.wat_laws.specs.Looser.{Looser}
+use Rattle.wat_laws.proofs.{SettingLaws.looser-lenient}
 use Rattle.wat_laws.proofs.Divisions.{divided-some, lengths-append, ended-one, ended-nil, ended-fault}
-use Rattle.wat_laws.proofs.{OneCall.stands-or-rejected, Walks.walked-then}
+use Rattle.wat_laws.proofs.{OneCall.stands-or-rejected, Walks.walked-then, Walks.walked-looser}
 use Rattle.wat_laws.proofs.WalkParts.{walked-cut}
 use Rattle.wat_forms.specs.Forms.{deepest, Opens, opens, Form, Halts, Folds}
 use Rattle.wat_forms.specs.Balance.{up, down, openings, closings, Balanced, WholeForm, Structural}
@@ -93,17 +94,13 @@ pub folds-whole : {σ : Settings} {text : List ℕ} {start end : ℕ} → Folds 
 folds-whole (Folds.walks {ts = ts} s w (Halts.past f)) =
     record { tokens = ts; walked = w; form = f; balanced = form-balanced f; inner = inner w f }
 
-divided-lenient : {σ : Settings} {s rest : List ℕ} {ts : List Piece} → WellFormed s → Divided σ s ts rest
-    → Divided lenient s ts rest
-divided-lenient g Divided.none = Divided.none
-divided-lenient g (Divided.more (Lexed.token l f) d) =
-    Divided.more (lexed-lenient g (Lexed.token l f)) (divided-lenient (token-formed g l .1) d)
+pub folds-looser : {σ τ : Settings} {text : List ℕ} {start end : ℕ} → Looser σ τ → Folds σ text start (folded.Past end)
+    → Folds τ text start (folded.Past end)
+folds-looser o (Folds.walks s w (Halts.past f)) = Folds.walks s (walked-looser o (s .between) w) (Halts.past f)
 
 pub folds-lenient : {σ : Settings} {text : List ℕ} {start end : ℕ} → Folds σ text start (folded.Past end)
     → Folds lenient text start (folded.Past end)
-folds-lenient (Folds.walks s w (Halts.past f)) =
-    let d = divided-lenient (s .between) (w .divided) in
-    Folds.walks s (record { divided = d; place = w .place; stands = w .stands }) (Halts.past f)
+folds-lenient {σ} f = folds-looser (looser-lenient σ) f
 
 -- a place between tokens of a text that is divided to its end
 pub folds-listed : {σ : Settings} {text : List ℕ} {pos : ℕ} {ts us : List Piece} {a : Folded} → Divided σ text ts []

@@ -5,3 +5,4 @@ mod FewBytes
 pub mod FoldLaws
 pub mod InnerForms
 pub mod FoldWindows
+pub mod StrictFolds

@@ -60,7 +60,7 @@ unclosed = 42
 -- why folding that has walked over the tokens `ts` to `at` answers what it does there: they are a form, or one is begun
 pub data Halts (σ : Settings) (text : List ℕ) (ts : List Piece) (at : ℕ) : Folded → Type 0 where
   past : Form deepest ts → Halts σ text ts at (folded.Past at)
-  -- 10 to 21: a form is begun, and then comes an error
+  -- 10 to 21, 25: a form is begun, and then comes an error
   fault : {e : ℕ} {f : Fault} → Begun deepest e ts → Lexed σ (drop at text) (answer.Fault f)
       → Halts σ text ts at (folded.Refused (Lexical (f .error)) (at + f .place))
   -- 41: a form is begun, and then comes an opening for which no level is left

@@ -1,4 +1,5 @@
--- The answer is the model's; a token lexes alone, and under the lenient settings. Assumes nothing.
+-- The answer is the model's; a token lexes alone, and under looser settings; without strict digits every answer but 25 is
+-- the same. Assumes nothing.
 use Prim.Native.Nat.{ℕ, zero, suc, _+_, _<_}
 use mathlib.Core.Path.{_≡_, refl, sym, ap, _∙_, subst}
 use mathlib.Core.Logic.{_⊎_, inl, inr}
@@ -11,7 +12,7 @@ use Rattle.wat.specs.declared.Fault.{Fault}
 use Rattle.wat.specs.Faults.{fault, shift}
 use Rattle.wat.specs.declared.TokenKind.{TokenKind}
 use Rattle.wat.specs.declared.LexError.{LexError}
-use Rattle.wat.specs.declared.LexError.the-variants.{DanglingBlockComment, Unexpected, ConfusingUnicode}
+use Rattle.wat.specs.declared.LexError.the-variants.{DanglingBlockComment, Unexpected, ConfusingUnicode, DoubleUnderscore}
 use Rattle.wat.specs.declared.Answer.{Answer}
 use Rattle.wat.specs.declared.Answer.the-variants as answer
 use Rattle.wat.specs.Bytes.{bytes}
@@ -34,7 +35,9 @@ use Rattle.wat.proofs.Runs.{Stopped, ended, run-stops, run-fails, Walks, is-run
 use Rattle.wat.proofs.Shapes.{tok-shape}
 use Rattle.wat.proofs.Unique.{family-open, family-other, run-bad-head, tok-some, longest-one, lexed-one, nil-fault}
 use Rattle.wat_laws.proofs.TokenShapes.{Told, told}
-use Rattle.wat_laws.proofs.LongestOf.{longest-run, run-lenient}
+use Rattle.wat_laws.specs.Looser.{Looser, unstrict, NotDouble}
+use Rattle.wat_laws.proofs.SettingLaws.{looser-lenient, looser-unstrict, looser-off, run-looser, run-lenient, string-unstrict}
+use Rattle.wat_laws.proofs.LongestOf.{longest-run}
 use Rattle.wat_laws.proofs.Total.{lexed}
 
 -- the answer is what the model computes
@@ -55,14 +58,13 @@ accepted-run {σ} {k} {n} x t f g l nf = go (walks (suc (length (x ∷ t))) (x �
     go (is-bad {w = w} {x = f} q r z i) =
         absurd (nf (shift (length w) f) (subst (λ (y : List ℕ). Fails σ y (shift (length w) f)) (sym q) (Fails.string r z)))
 
--- ---- (i) what is accepted is accepted under the lenient settings, with the same token
+-- ---- (i) what is accepted is accepted under looser settings, with the same token
 
-pub lexed-lenient : {σ : Settings} {s : List ℕ} {k : TokenKind} {n : ℕ} → WellFormed s → Lexed σ s (answer.Token k n)
-    → Lexed lenient s (answer.Token k n)
-lexed-lenient {σ} {s} {k} {n} g (Lexed.token l nf) = Lexed.token l (λ e f. go f refl)
+pub lexed-looser : {σ τ : Settings} {s : List ℕ} {k : TokenKind} {n : ℕ} → Looser σ τ → WellFormed s
+    → Lexed σ s (answer.Token k n) → Lexed τ s (answer.Token k n)
+lexed-looser {σ} {τ} {s} {k} {n} o g (Lexed.token l nf) = Lexed.token l (λ e f. go f refl)
   where
-    strings : {w t : List ℕ} {er : Fault} (s′ : List ℕ) → s′ ≡ s → w ++ t ≡ s → Run lenient w
-        → BadStr lenient t er → ⊥
+    strings : {w t : List ℕ} {er : Fault} (s′ : List ℕ) → s′ ≡ s → w ++ t ≡ s → Run τ w → BadStr τ t er → ⊥
     strings [] q h r b = nil-fault (Fails.string r b) (h ∙ sym q)
     strings {w} {t} {er} (x ∷ v) q h r b =
         let a =
@@ -70,18 +72,38 @@ lexed-lenient {σ} {s} {k} {n} g (Lexed.token l nf) = Lexed.token l (λ e f. go 
         (λ er f. nf er (subst (λ (z : List ℕ). Fails σ z er) q f)) in
         let f = suc (length (a .0) + length w) in
         let y : stops (length (a .0)) ≡ fails (shift (length w) er) =
-        sym (run-stops f (run-lenient (a .3)) (a .4) (omega arith)) ∙ ap (walk lenient f) (sym (a .2) ∙ q ∙ sym h)
+        sym (run-stops f (run-looser o (a .3)) (a .4) (omega arith)) ∙ ap (walk τ f) (sym (a .2) ∙ q ∙ sym h)
         ∙ run-fails f r b (omega arith) in
         let z : _≡_ {A = ℕ} 0 1 = cc in omega arith
 
-    go : {s′ : List ℕ} {f : Fault} → Fails lenient s′ f → s′ ≡ s → ⊥
+    go : {s′ : List ℕ} {f : Fault} → Fails τ s′ f → s′ ≡ s → ⊥
     go (Fails.dangling {t = t} h) q =
         nf (fault DanglingBlockComment 0 0) (subst (λ (z : List ℕ). Fails σ z (fault DanglingBlockComment 0 0)) q (Fails.dangling h))
     go (Fails.unexpected {x = x} {c = c} t ch h) q =
         nf (fault (Unexpected (scalar (x ∷ c))) 0 0)
         (subst (λ (z : List ℕ). Fails σ z (fault (Unexpected (scalar (x ∷ c))) 0 0)) q (Fails.unexpected t ch h))
-    go (Fails.comment t h c l′ pl ch cf i) q = differ (cc)
+    go (Fails.comment {n = m} {p = p} {c = c} t h k l′ pl ch cf i) q =
+        let er = fault (ConfusingUnicode (scalar c)) (length p) m in
+        nf er (subst (λ (z : List ℕ). Fails σ z er) q (Fails.comment t (looser-off o h) k l′ pl ch cf i))
     go (Fails.string r b) q = strings s refl q r b
+
+pub lexed-lenient : {σ : Settings} {s : List ℕ} {k : TokenKind} {n : ℕ} → WellFormed s → Lexed σ s (answer.Token k n)
+    → Lexed lenient s (answer.Token k n)
+lexed-lenient {σ} g l = lexed-looser (looser-lenient σ) g l
+
+-- strict digits decide one point alone: any answer but 25 is the answer without them
+pub fails-unstrict : {σ : Settings} {s : List ℕ} {f : Fault} → Fails σ s f → (f .error ≡ DoubleUnderscore → ⊥)
+    → Fails (unstrict σ) s f
+fails-unstrict (Fails.dangling h) n = Fails.dangling h
+fails-unstrict (Fails.unexpected t ch h) n = Fails.unexpected t ch h
+fails-unstrict (Fails.comment t h k l pl ch cf i) n = Fails.comment t h k l pl ch cf i
+fails-unstrict {σ} (Fails.string r b) n = Fails.string (run-looser (looser-unstrict σ) r) (string-unstrict σ b n)
+
+pub lexed-unstrict : {σ : Settings} {s : List ℕ} {a : Answer} → WellFormed s → Lexed σ s a → NotDouble a
+    → Lexed (unstrict σ) s a
+lexed-unstrict g (Lexed.end e) n = Lexed.end e
+lexed-unstrict {σ} g (Lexed.token l f) n = lexed-looser (looser-unstrict σ) g (Lexed.token l f)
+lexed-unstrict g (Lexed.fails x) n = Lexed.fails (fails-unstrict x n)
 
 -- ---- (j) a token lexes alone
 

@@ -1,4 +1,5 @@
--- Divisions: tokens lie end to end over every byte, none is empty, and there is one division. Assumes nothing.
+-- Divisions: tokens lie end to end over every byte, none is empty, there is one division, and under looser settings it is
+-- the same. Assumes nothing.
 use Prim.Native.Nat.{ℕ, zero, suc, _+_, _≤_, _<_}
 use mathlib.Core.Path.{_≡_, refl, sym, ap, _∙_}
 use mathlib.Core.List.{List, [], _∷_, _++_, append-nil, append-assoc}
@@ -13,6 +14,10 @@ use Rattle.wat.specs.Division.{Piece, lengths, Divided}
 use Rattle.wat.specs.Whole.{joined, Some, Longests, Division}
 use Rattle.wat.proofs.Basics.{differ}
 use Rattle.wat.proofs.Unique.{tok-some, lexed-one}
+use Rattle.wat.proofs.Boundaries.{token-formed}
+use Rattle.wat.specs.Utf8.{WellFormed}
+use Rattle.wat_laws.specs.Looser.{Looser}
+use Rattle.wat_laws.proofs.Answers.{lexed-looser}
 
 -- ---- a token is in the text, and not empty
 
@@ -130,3 +135,11 @@ divided-next (Divided.more {t = t} l r) (Divided.more {t = t′} l′ r′) h =
 pub lengths-append : (us vs : List Piece) → lengths (us ++ vs) ≡ lengths us + lengths vs
 lengths-append [] vs = omega arith
 lengths-append (u ∷ us) vs = omega (arith, lengths-append us vs)
+
+-- ---- under looser settings
+
+pub divided-looser : {σ τ : Settings} {s rest : List ℕ} {ts : List Piece} → Looser σ τ → WellFormed s → Divided σ s ts rest
+    → Divided τ s ts rest
+divided-looser o g Divided.none = Divided.none
+divided-looser o g (Divided.more (Lexed.token l f) d) =
+    Divided.more (lexed-looser o g (Lexed.token l f)) (divided-looser o (token-formed g l .1) d)

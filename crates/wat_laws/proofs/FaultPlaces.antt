@@ -55,7 +55,7 @@ low-underscores (suc k) = Each.next refl (low-underscores k)
 
 low-number : {σ : Settings} {ds : List ℕ} {n : ℕ} → HexNum σ ds n → Each low true ds
 low-number (HexNum.one h) = Each.next (low-hex h) Each.none
-low-number (HexNum.more k r h) = each-append (low-number r) (each-append (low-underscores k) (Each.next (low-hex h) Each.none))
+low-number (HexNum.more k g r h) = each-append (low-number r) (each-append (low-underscores k) (Each.next (low-hex h) Each.none))
 
 -- `\u{` and what is ASCII behind it
 low-opened : {ds : List ℕ} → Each low true ds → Each low true (bytes "\\u{" ++ ds)
@@ -103,11 +103,13 @@ low-awaited (Awaits.close r e) = low-opened (low-number r)
 after-bad : {σ : Settings} {p c u : List ℕ} {e : LexError} → Bad σ p c u e → WellFormed (p ++ (c ++ u)) → WellFormed u
 after-bad (Bad.other {at = c} {rest = u} a ch t) g = after c u ch (after-low (c ++ u) (low-awaited a) g)
 after-bad (Bad.end a) g = empty
-after-bad (Bad.big {rest = u} {d = d} k r f h n) g =
+after-bad (Bad.big {rest = u} {d = d} k p r f h n) g =
     after-low u (Each.next (low-hex h) Each.none)
     (after-low (d ∷ u) (low-opened (each-append (low-number r) (low-underscores k))) g)
-after-bad (Bad.lone {rest = u} k r f n) g =
+after-bad (Bad.lone {rest = u} k p r f n) g =
     after-low u (low-underscores 1) (after-low (0x5F ∷ u) (low-opened (each-append (low-number r) (low-underscores k))) g)
+after-bad (Bad.double {rest = u} e r f) g =
+    after-low u (low-underscores 1) (after-low (0x5F ∷ u) (low-opened (each-append (low-number r) (low-underscores 1))) g)
 after-bad (Bad.value {ds = ds} {rest = u} {d = d} r f n e) g =
     after-low u (low-opened (low-number r)) (rw (append-assoc ds (d ∷ []) u) g)
 after-bad (Bad.hidden {at = c} {rest = u} ch e f) g = after c u ch g
@@ -184,8 +186,9 @@ awaited-error n (Awaits.close r e) q = differ (cc)
 eof-last : {σ : Settings} {p c u : List ℕ} {e : LexError} → Bad σ p c u e → e ≡ UnexpectedEof → length (c ++ u) ≡ 0
 eof-last (Bad.other {at = c} a ch t) q = absurd (awaited-error (scalar c) a q)
 eof-last (Bad.end a) q = refl
-eof-last (Bad.big k r f h n) q = differ (cc)
-eof-last (Bad.lone k r f n) q = differ (cc)
+eof-last (Bad.big k p r f h n) q = differ (cc)
+eof-last (Bad.lone k p r f n) q = differ (cc)
+eof-last (Bad.double e r f) q = differ (cc)
 eof-last (Bad.value r f n e) q = differ (cc)
 eof-last (Bad.hidden ch e f) q = differ (cc)
 

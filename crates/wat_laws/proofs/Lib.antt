@@ -1,3 +1,4 @@
+pub mod SettingLaws
 pub mod TokenShapes
 pub mod LongestOf
 pub mod NoFault
@@ -18,3 +19,4 @@ pub mod CommentWindows
 pub mod Windows
 pub mod WindowCalls
 pub mod Slices
+pub mod StrictCalls

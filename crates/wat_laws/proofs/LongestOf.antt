@@ -11,15 +11,11 @@ use lib.Seq.{length-take-le, take-append-seam}
 use Rattle.wat.specs.declared.TokenKind.{TokenKind}
 use Rattle.wat.specs.declared.TokenKind.the-variants as kind
 use Rattle.wat.specs.Bytes.{bytes, has, Each}
-use Rattle.wat.specs.declared.Settings.{Settings}
 use Rattle.wat.specs.Settings.{lenient}
-use Rattle.wat.specs.Utf8.{more}
 use Rattle.wat.specs.Chars.{idchar, space, newline}
-use Rattle.wat.specs.Strings.{HexNum, Elem, Elems, Str}
 use Rattle.wat.specs.Comments.{Spaces, LineComment, Block, BlockComment}
 use Rattle.wat.specs.Tokens.{Run, Proper, Tok}
 use Rattle.wat.specs.Lexing.{Longest}
-use Rattle.wat.specs.StringModel.{char}
 use Rattle.wat.specs.RunModel.{walk}
 use Rattle.wat.specs.declared.Family.{Family}
 use Rattle.wat.specs.declared.Family.the-variants.{Spaces as spaces, OpenParen as open-paren}
@@ -150,23 +146,3 @@ longest-run {w} x t u q r z f =
     whole : (w : List ℕ) → Run lenient w → x ∷ t ≡ w ++ u → Tok (kindOf w) w
     whole [] r q = absurd (not-stopped x t f z (sym q))
     whole (y ∷ v) r q = run-token y v r
-
--- a run under any settings is one under the lenient ones
-elem-lenient : {σ : Settings} {s v : List ℕ} → Elem σ s v → Elem lenient s v
-elem-lenient (Elem.raw ch p q r h) = Elem.raw ch p q r (λ e. differ (cc))
-elem-lenient (Elem.letter m) = Elem.letter m
-elem-lenient (Elem.pair p q) = Elem.pair p q
-elem-lenient (Elem.unicode r ch) = Elem.unicode (number-lenient r) ch
-  where
-    number-lenient : {σ : Settings} {ds : List ℕ} {n : ℕ} → HexNum σ ds n → HexNum lenient ds n
-    number-lenient (HexNum.one h) = HexNum.one h
-    number-lenient (HexNum.more k r h) = HexNum.more k (number-lenient r) h
-
-pub elems-lenient : {σ : Settings} {s v : List ℕ} → Elems σ s v → Elems lenient s v
-elems-lenient Elems.none = Elems.none
-elems-lenient (Elems.next p r) = Elems.next (elem-lenient p) (elems-lenient r)
-
-pub run-lenient : {σ : Settings} {w : List ℕ} → Run σ w → Run lenient w
-run-lenient Run.none = Run.none
-run-lenient (Run.char e r) = Run.char e (run-lenient r)
-run-lenient (Run.string (Str.quoted q) r) = Run.string (Str.quoted (elems-lenient q)) (run-lenient r)

@@ -1,12 +1,12 @@
 -- The calls on a text and a position have one answer each, for every text and position. Assumes nothing.
 use Prim.Native.Nat.{ℕ, _≤_}
-use mathlib.Core.Path.{_≡_, refl, ap, subst}
+use mathlib.Core.Path.{_≡_, refl, sym, ap, subst, _∙_}
 use mathlib.Core.Logic.{_⊎_, inl, inr}
-use mathlib.Core.List.{List}
+use mathlib.Core.List.{List, _∷_, _++_}
 use mathlib.Core.Bool.{Bool, true, false}
 use native.Mathlib.Omega.{arith}
 use lib.Dec.{ltb}
-use lib.ListN.{length, drop}
+use lib.ListN.{length, take, drop, length-drop, take-append-drop}
 use borrow.Author.Tests.{ltb-true, ltb-false}
 use Rattle.wat.specs.declared.Checked.{Checked}
 use Rattle.wat.specs.declared.Checked.the-variants.{Ok, Bad}
@@ -15,13 +15,15 @@ use Rattle.wat.specs.declared.Parsed.{Parsed}
 use Rattle.wat.specs.declared.Found.{Found}
 use Rattle.wat.specs.declared.Answer.{Answer}
 use Rattle.wat.specs.declared.Settings.{Settings}
+use Rattle.wat.specs.Bytes.{byte}
 use Rattle.wat.specs.Utf8.{WellFormed, Says}
 use Rattle.wat.specs.Utf8Model.{checked}
 use Rattle.wat.specs.Lexing.{Lexed}
 use Rattle.wat.specs.LexModel.{lex}
-use Rattle.wat.specs.Calls.{most, Text, Stands, Rejected, at, Parses, Annotates}
+use Rattle.wat.specs.Calls.{most, Text, Stands, Rejected, at, AtSign, Parses, Annotates}
 use Rattle.wat.proofs.Utf8Laws.{checked-says, says-one}
 use Rattle.wat.proofs.Basics.{differ}
+use Rattle.wat.proofs.Boundaries.{cut}
 use Rattle.wat.proofs.Unique.{lexed-one}
 use Rattle.wat_laws.proofs.Total.{lexed}
 
@@ -104,6 +106,14 @@ same-rest σ {x} {y} {p} {q} s t e =
     (lex σ (drop p x), Parses.lexes s l, Parses.lexes t (subst (λ (z : List ℕ). Lexed σ z (lex σ (drop p x))) e l))
 
 -- ---- annotation
+
+-- a position before an ASCII byte stands between two characters
+pub sign-stands : (text : List ℕ) (pos : ℕ) → Text text → AtSign text pos → Stands text pos
+sign-stands text pos t g =
+    let e : text ≡ take pos text ++ (byte "@" ∷ g .0) =
+    sym (take-append-drop pos text) ∙ ap (λ (z : List ℕ). take pos text ++ z) (g .1) in
+    let w : WellFormed (byte "@" ∷ g .0) = cut (t .formed) (take pos text) (byte "@") (g .0) e (omega arith) .1 in
+    record { sound = t; within = omega (arith, length-drop pos text, ap length (g .1)); between = rw (g .1) w }
 
 pub annotates-one : {σ : Settings} {text : List ℕ} {pos : ℕ} {a b : Found} → Annotates σ text pos a
     → Annotates σ text pos b → a ≡ b

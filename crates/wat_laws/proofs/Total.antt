@@ -39,7 +39,8 @@ use Rattle.wat.proofs.Blocks.{block-ends, ended as block-ended}
 use Rattle.wat.proofs.Families.{Families, is-space, is-open, is-close, is-semi, is-single, is-char, is-quote, is-other, families}
 use Rattle.wat.proofs.Families.{family-space}
 use Rattle.wat.proofs.Unique.{semi-mark, family-open, family-close, family-semi, family-other, comment-head, longest-head}
-use Rattle.wat_laws.proofs.LongestOf.{longest-one-byte, longest-space, longest-line, block-at, longest-run, run-lenient}
+use Rattle.wat_laws.proofs.LongestOf.{longest-one-byte, longest-space, longest-line, block-at, longest-run}
+use Rattle.wat_laws.proofs.SettingLaws.{run-lenient}
 use Rattle.wat_laws.proofs.NoFault.{comment-lexed, other-faults}
 
 no-comment-lparen : Comment kind.LParen → ⊥

@@ -13,7 +13,8 @@ use Rattle.wat.specs.Lexing.{Lexed}
 use Rattle.wat.specs.Calls.{Stands}
 use Rattle.wat.specs.Division.{Piece, lengths, Divided, Walked, recordSize, recordOf, records}
 use Rattle.wat.proofs.Boundaries.{token-formed}
-use Rattle.wat_laws.proofs.Divisions.{token-size, divided-append, lengths-append}
+use Rattle.wat_laws.specs.Looser.{Looser}
+use Rattle.wat_laws.proofs.Divisions.{token-size, divided-append, lengths-append, divided-looser}
 
 -- ---- walks
 
@@ -64,6 +65,12 @@ module _ (σ : Settings) (text : List ℕ) where
   pub walked-end : {start at : ℕ} {ts : List Piece} → Walked σ text start at ts → length text ≤ at
       → Divided σ (drop start text) ts []
   walked-end {start} {at} {ts} w h = subst (λ (z : List ℕ). Divided σ (drop start text) ts z) (drop-of-length-le text h) (w .divided)
+
+-- under looser settings the same tokens are walked over
+pub walked-looser : {σ τ : Settings} {text : List ℕ} {start at : ℕ} {ts : List Piece} → Looser σ τ
+    → WellFormed (drop start text)
+    → Walked σ text start at ts → Walked τ text start at ts
+walked-looser o g w = record { divided = divided-looser o g (w .divided); place = w .place; stands = w .stands }
 
 -- ---- records
 

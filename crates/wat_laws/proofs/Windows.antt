@@ -71,8 +71,9 @@ number-window r (NumberEnds.other e) h = NumberEnds.other e
 bad-window : {σ : Settings} {p c u : List ℕ} {e : LexError} (r : List ℕ) → Bad σ p c u e → 0 < length u → Bad σ p c (u ++ r) e
 bad-window r (Bad.other a ch t) h = Bad.other a ch t
 bad-window r (Bad.end a) h = absurd (omega arith)
-bad-window r (Bad.big k n f d o) h = Bad.big k n f d o
-bad-window r (Bad.lone k n f e) h = Bad.lone k n f (number-window r e h)
+bad-window r (Bad.big k g n f d o) h = Bad.big k g n f d o
+bad-window r (Bad.lone k g n f e) h = Bad.lone k g n f (number-window r e h)
+bad-window r (Bad.double g n f) h = Bad.double g n f
 bad-window r (Bad.value n f i e) h = Bad.value n f i (number-window r e h)
 bad-window r (Bad.hidden ch c f) h = Bad.hidden ch c f
 

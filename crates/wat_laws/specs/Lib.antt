@@ -1,2 +1,3 @@
+pub mod Looser
 pub mod Records
 pub mod Windows

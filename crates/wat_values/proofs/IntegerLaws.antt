@@ -117,8 +117,8 @@ num-digits r = standard.to-digits (bare r)
 -- in `\u{..}` hexadecimal digits are the same number
 pub num-hexnum : {σ : Settings} {s : List ℕ} {n : ℕ} → Num true s n → HexNum σ s n
 num-hexnum (Num.one x) = HexNum.one (x .0)
-num-hexnum (Num.more r x) = HexNum.more 0 (num-hexnum r) (x .0)
-num-hexnum (Num.gap r x) = HexNum.more 1 (num-hexnum r) (x .0)
+num-hexnum (Num.more r x) = HexNum.more 0 (λ e. omega arith) (num-hexnum r) (x .0)
+num-hexnum (Num.gap r x) = HexNum.more 1 (λ e. omega arith) (num-hexnum r) (x .0)
 
 -- ---- literals
 

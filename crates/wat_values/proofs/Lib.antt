@@ -10,3 +10,4 @@ pub mod ValueLaws
 pub mod ReadingLaws
 pub mod Signs
 pub mod Readable
+pub mod HandedOut

@@ -89,6 +89,12 @@ enum-told-6 c = c .match .keys14
 bare-requires-6 : tie.Need-bare-requires-6
 bare-requires-6 c κs = tt
 
+enum-told-7 : tie.Need-enum-told-7
+enum-told-7 c = c .match .keys15
+
+bare-requires-7 : tie.Need-bare-requires-7
+bare-requires-7 c κs = tt
+
 returns : tie.Need-returns
 returns c = error-coded (c .before .enum-told .given .1) (c .bare .ensures)
 
@@ -131,6 +137,9 @@ returns-13 c = error-coded (c .before .enum-told5 .given .1) (c .bare5 .ensures)
 returns-14 : tie.Need-returns-14
 returns-14 c = error-coded (c .before .enum-told6 .given .1) (c .bare6 .ensures)
 
+returns-15 : tie.Need-returns-15
+returns-15 c = error-coded (c .before .enum-told7 .given .1) (c .bare7 .ensures)
+
 pub error-code-spec : {M : Type 1} → statement M
 error-code-spec =
     tie.close
@@ -163,6 +172,8 @@ error-code-spec =
     bare-requires-5
     enum-told-6
     bare-requires-6
+    enum-told-7
+    bare-requires-7
     returns
     returns-2
     returns-3
@@ -176,4 +187,5 @@ error-code-spec =
     returns-11
     returns-12
     returns-13
-    returns-14)
+    returns-14
+    returns-15)

@@ -5,7 +5,8 @@ use borrow.Author.Needs.{needs}
 use borrow.Author.Tests.{not-true, not-false}
 use Rattle.wat.specs.Calls as calls
 use Rattle.codes.proofs.NumberLaws.{same-kind, other-kind}
-use Rattle.lex_calls.proofs.CallLaws.{token-fits, fault-fits, sign-none, sign-some, sign-stands}
+use Rattle.wat_laws.proofs.OneCall.{sign-stands}
+use Rattle.lex_calls.proofs.CallLaws.{token-fits, fault-fits, sign-none, sign-some}
 use Rattle.lex_calls.proofs.CallLaws.{annotation-end, annotation-fault, annotation-token, annotation-other}
 use Rattle.lex_calls.proofs.annotation_at.Statement.{statement}
 use Rattle.lex_calls.proofs.annotation_at.Tie as tie

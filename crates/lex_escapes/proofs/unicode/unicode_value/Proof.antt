@@ -7,14 +7,15 @@ use borrow.Author.Needs.{needs}
 use lib.ListN.{length, drop, length-drop}
 use Rattle.wat.specs.StringModel.{digits}
 use Rattle.wat.specs.declared.Num.{Num}
-use Rattle.wat.specs.declared.Num.the-variants.{Is, Lone, Big}
+use Rattle.wat.specs.declared.Num.the-variants.{Is, Lone, Big, Double}
 use Rattle.lex_escapes.specs.Elements.{consumed, Counted}
 use Rattle.lex_escapes.proofs.NumberLaws.{counted-as}
 use Rattle.lex_escapes.proofs.ElementLaws.{a-refusal, says-same, number-scalar, number-value, number-lone, number-big}
+use Rattle.lex_escapes.proofs.ElementLaws.{number-double}
 use Rattle.lex_escapes.proofs.unicode.unicode_value.Statement.{statement}
 use Rattle.lex_escapes.proofs.unicode.unicode_value.Tie as tie
 
--- the places: the function's start; where the number was read, for each of the three answers; and where a number is known
+-- the places: the function's start; where the number was read, for each of the four answers; and where a number is known
 abbrev start : tie.After-hexnum → tie.Start
 start c = c .before .before
 
@@ -26,6 +27,9 @@ read-lone c = c .before .before .before
 
 abbrev read-big : tie.After-known-told3 → tie.After-hexnum
 read-big c = c .before .before .before
+
+abbrev read-double : tie.After-known-told4 → tie.After-hexnum
+read-double c = c .before .before .before
 
 abbrev told : tie.After-is-scalar → tie.After-known-told
 told c = c .before
@@ -55,6 +59,9 @@ lone c = reads (read-lone c) (c .before .len .given .1)
 big : (c : tie.After-known-told3) → Reads (read-big c) (Big (c .before .len2 .given .0 .0))
 big c = reads (read-big c) (c .before .len2 .given .1)
 
+double : (c : tie.After-known-told4) → Reads (read-double c) (Double (c .before .len3 .given .0 .0))
+double c = reads (read-double c) (c .before .len3 .given .1)
+
 add-hexnum : tie.Need-add-hexnum
 add-hexnum c = search needs
 
@@ -82,29 +89,38 @@ returns c =
     let e = number-scalar (a .s .now) (a .at + 3) (a .at + (3 + k)) _ k _ (number (told s) .0 .is) (omega arith) scalar in
     says-same (a .s .now) (a .at) (c .close-brace .result) e (c .close-brace .ensures)
 
-add-t15 : tie.Need-add-t15
-add-t15 c = omega (arith, number (told (c .before)) .1)
-
 add-t16 : tie.Need-add-t16
 add-t16 c = omega (arith, number (told (c .before)) .1)
+
+add-t17 : tie.Need-add-t17
+add-t17 c = omega (arith, number (told (c .before)) .1)
 
 enum-known-len : tie.Need-enum-known-len
 enum-known-len c = search needs
 
-add-t19 : tie.Need-add-t19
-add-t19 c = omega (arith, lone c .1)
-
 add-t20 : tie.Need-add-t20
 add-t20 c = omega (arith, lone c .1)
+
+add-t21 : tie.Need-add-t21
+add-t21 c = omega (arith, lone c .1)
 
 enum-known-len-2 : tie.Need-enum-known-len-2
 enum-known-len-2 c = search needs
 
-add-t23 : tie.Need-add-t23
-add-t23 c = omega (arith, big c .1)
-
 add-t24 : tie.Need-add-t24
 add-t24 c = omega (arith, big c .1)
+
+add-t25 : tie.Need-add-t25
+add-t25 c = omega (arith, big c .1)
+
+enum-known-len-3 : tie.Need-enum-known-len-3
+enum-known-len-3 c = search needs
+
+add-t28 : tie.Need-add-t28
+add-t28 c = omega (arith, double c .1)
+
+add-t29 : tie.Need-add-t29
+add-t29 c = omega (arith, double c .1)
 
 returns-2 : tie.Need-returns-2
 returns-2 c =
@@ -128,6 +144,13 @@ returns-4 c =
     let e = number-big (drop (a .at + 3) (a .s .now)) _ _ (m .0 .is) in
     a-refusal (a .s .now) (a .at) e (omega arith) (omega (arith, m .1))
 
+returns-5 : tie.Need-returns-5
+returns-5 c =
+    let a = start (read-double c) .args in
+    let m = double c in
+    let e = number-double (drop (a .at + 3) (a .s .now)) _ _ (m .0 .is) in
+    a-refusal (a .s .now) (a .at) e (omega arith) (omega (arith, m .1))
+
 pub unicode-value-spec : {M : Type 1} → statement M
 unicode-value-spec =
     tie.close
@@ -138,14 +161,18 @@ unicode-value-spec =
     is-scalar-requires
     close-brace-requires
     returns
-    add-t15
     add-t16
+    add-t17
     enum-known-len
-    add-t19
     add-t20
+    add-t21
     enum-known-len-2
-    add-t23
     add-t24
+    add-t25
+    enum-known-len-3
+    add-t28
+    add-t29
     returns-2
     returns-3
-    returns-4)
+    returns-4
+    returns-5)
