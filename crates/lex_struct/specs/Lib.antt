@@ -1,1 +1,1 @@
-pub mod Allowing
+pub mod Setters

@@ -6,7 +6,7 @@ ghost use Rattle.wat.specs.Calls.{most, Parses, Annotates};
 ghost use Rattle.wat.specs.Division.{Listing};
 ghost use Rattle.wat.specs.Settings.{plain};
 ghost use Rattle.wat_forms.specs.Forms.{Folds};
-ghost use Rattle.lex_struct.specs.Allowing.{allowing};
+ghost use Rattle.lex_struct.specs.Setters.{allowing, strictly};
 use wat::Found;
 use wat::Listed;
 use wat::Settings;
@@ -51,6 +51,14 @@ impl<'a> Lexer<'a> {
         ensures { λ r. ⌜ r ≡ at-last (self .entry) (allowing (now (self .entry)) allow) ⌝ }
     {
         self.settings.allow_confusing = allow;
+        self
+    }
+
+    // The same for strict digits: in `\u{..}` a single underscore between digits.
+    pub fn strict_digits(&mut self, strict: bool) -> &mut Lexer<'a>
+        ensures { λ r. ⌜ r ≡ at-last (self .entry) (strictly (now (self .entry)) strict) ⌝ }
+    {
+        self.settings.strict_digits = strict;
         self
     }
 

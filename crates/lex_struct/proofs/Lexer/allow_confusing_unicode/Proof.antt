@@ -2,7 +2,7 @@
 -- Assumes nothing.
 use mathlib.Core.Path.{refl}
 use base.Logic.{id⊢}
-use Rattle.lex_struct.specs.Allowing.{allowing}
+use Rattle.lex_struct.specs.Setters.{allowing}
 use Rattle.lex_struct.proofs.SetLaws.{setter-runs}
 use Rattle.lex_struct.proofs.Lexer.allow_confusing_unicode as allow
 use Rattle.lex_struct.proofs.Lexer.allow_confusing_unicode.Key as key
