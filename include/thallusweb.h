@@ -36,7 +36,7 @@ extern "C" {
 
 /* The number of this header's words, constants and prototypes. It rises whenever one of them changes, comes or goes: a
  * library belongs to this header where thallusweb_version returns THALLUSWEB_VERSION. */
-#define THALLUSWEB_VERSION 4
+#define THALLUSWEB_VERSION 5
 uint32_t thallusweb_version(void);
 
 /* The longest text that is lexed, the bytes of a token's record in a list, a buffer that holds every message, and how
@@ -66,8 +66,17 @@ uint32_t thallusweb_version(void);
  * by 21, since with them a page may show another text than is there:
  *   U+202A left-to-right embedding     U+202B right-to-left embedding    U+202D left-to-right override
  *   U+202E right-to-left override      U+2066 left-to-right isolate      U+2067 right-to-left isolate
- *   U+2068 first strong isolate        U+2069 pop directional isolate    U+206C inhibit Arabic form shaping */
+ *   U+2068 first strong isolate        U+2069 pop directional isolate    U+206C inhibit Arabic form shaping
+ *
+ * THALLUSWEB_STRICT_DIGITS lets only a single underscore stand between two digits of a \u{..}, as the WebAssembly
+ * standard has it: the second underscore of a pair is refused by 25. Without it any number of them may stand there, and
+ * "\u{1__0}" is a string, of the byte 16. Nothing else depends on it: the digits of integers and floats have single
+ * underscores, whatever the settings are.
+ *
+ * The calls that take a token, such as thallusweb_read, take no settings: they lex with the first and without the
+ * second. So every token is theirs, with whatever settings it was lexed, and its value is the same. */
 #define THALLUSWEB_ALLOW_CONFUSING 1
+#define THALLUSWEB_STRICT_DIGITS 2
 
 /* What out[0] says. */
 enum {
@@ -134,6 +143,8 @@ enum {
     THALLUSWEB_LONE_UNDERSCORE = 20,        /* the number of a \u{..} ends in this underscore */
     THALLUSWEB_CONFUSING_UNICODE = 21,      /* one of the nine above, raw in a string or a comment, the first there;
                                                first: the character */
+    THALLUSWEB_DOUBLE_UNDERSCORE = 25,      /* with THALLUSWEB_STRICT_DIGITS: this underscore follows another in the
+                                               number of a \u{..}; in reading order with 18, before 20 and 19 */
 
     /* What a name stands for. The place is the token's offset. */
     THALLUSWEB_INVALID_UTF8_ID = 22,  /* the name is not UTF-8; first and second: as for 2, in the decoded name */
@@ -145,7 +156,7 @@ enum {
     THALLUSWEB_NOT_THAT_KIND = 31,    /* the reader does not take tokens of that kind; fold: no ( stands there */
     THALLUSWEB_BUFFER_TOO_SHORT = 32, /* the copy or the message is longer than the buffer */
     THALLUSWEB_LIST_FULL = 33,        /* the list has no room for the next token; out[0] is THALLUSWEB_FULL */
-    THALLUSWEB_NO_MESSAGE = 34,       /* no error has that number and those values */
+    THALLUSWEB_NO_MESSAGE = 34,       /* no error that has a message has that number and those values */
     THALLUSWEB_COUNTER_FULL = 35,     /* a line or column over 4,294,967,295: thallusweb_move returns false */
     THALLUSWEB_OUT_OF_RANGE = 40,     /* no word of so many bits is the integer's value */
 
@@ -162,16 +173,16 @@ void thallusweb_utf8_check(const uint8_t *text, size_t len, uint64_t out[3]);
 /* One token at a position. out[0]:
  *   THALLUSWEB_NOTHING   the position is the end of the text
  *   THALLUSWEB_TOKEN     out[1] its kind, out[2] its offset, which is the position, out[3] its length
- *   THALLUSWEB_REFUSED   1 to 4 or 10 to 21: out[1] the number, out[2] its place, out[3] and out[4] its values
- * out[5] is the position afterwards: past the token; after 12 to 20 past the last character read; after 21 in a string
- * the same, in a comment past the comment. After 1 to 4, 10 and 11, and at the end, it is the position given, where the
- * same call answers the same again.
+ *   THALLUSWEB_REFUSED   1 to 4, 10 to 21 or 25: out[1] the number, out[2] its place, out[3] and out[4] its values
+ * out[5] is the position afterwards: past the token; after 12 to 20 and 25 past the last character read; after 21 in a
+ * string the same, in a comment past the comment. After 1 to 4, 10 and 11, and at the end, it is the position given,
+ * where the same call answers the same again.
  * Cost: a check of the whole text, then the token. */
 void thallusweb_parse(const uint8_t *text, size_t len, uint32_t settings, size_t position, uint64_t out[6]);
 
 /* The annotation at a position: the words are those of thallusweb_parse without the last. THALLUSWEB_NOTHING where no @
- * stands, past the end and inside a character too, and where another token starts with the @. Refused by 1, 2 and 12 to
- * 21.
+ * stands, past the end and inside a character too, and where another token starts with the @. Refused by 1, 2, 12 to 21
+ * and 25.
  * Cost: a check of the whole text, then the token. */
 void thallusweb_annotation(const uint8_t *text, size_t len, uint32_t settings, size_t position, uint64_t out[5]);
 
@@ -181,7 +192,8 @@ void thallusweb_annotation(const uint8_t *text, size_t len, uint32_t settings, s
  * out[0] is why it stopped: THALLUSWEB_REFUSED by 1 to 4 before any token, else the first of these that holds:
  *   THALLUSWEB_END       the end of the text
  *   THALLUSWEB_BUDGET    as many tokens as `budget` says are in the list
- *   THALLUSWEB_REFUSED   10 to 21: out[1] the number, out[2] its place, out[3] and out[4] its values, as for 1 to 4
+ *   THALLUSWEB_REFUSED   10 to 21 or 25: out[1] the number, out[2] its place, out[3] and out[4] its values, as for 1
+ *                        to 4
  *   THALLUSWEB_FULL      no room for the next token: out[1] is 33
  * out[5] is how many tokens are in the list. out[6] is the position, from which another call goes on: the start of the
  * first token that is not in the list, or after a refusal what thallusweb_parse leaves in out[5] there. Bytes of the
@@ -196,7 +208,7 @@ void thallusweb_list(const uint8_t *text, size_t len, uint32_t settings, size_t 
  *   THALLUSWEB_TOLD      out[1] the position past the )
  *   THALLUSWEB_REFUSED   out[1] the number, out[2] its place, out[3] and out[4] its values: 1 to 4; 31 where no LParen
  *                        token stands at the position, be it another, an error or the end; else the first in reading
- *                        order of 10 to 21, 41 and 42
+ *                        order of 10 to 21, 25, 41 and 42
  * Cost: a check of the whole text, then the form; each token is lexed once, however deep it stands. */
 void thallusweb_fold(const uint8_t *text, size_t len, uint32_t settings, size_t position, uint64_t out[5]);
 
@@ -265,9 +277,10 @@ void thallusweb_integer_32(const uint8_t *text, size_t len, const uint64_t token
 void thallusweb_integer_64(const uint8_t *text, size_t len, const uint64_t token[3], uint64_t out[5]);
 
 /* The message of an error, 10 to 24: its number and its values, as a refusal has them. Values that the error does not
- * carry, and those of 22, may be anything. out[0]: THALLUSWEB_TOLD, with the message's length in out[1] and the message
- * at the front of the buffer (no 0 follows it); or THALLUSWEB_REFUSED, by 34 or 32, tested in this order, which leaves
- * the buffer as it was. THALLUSWEB_MESSAGE bytes always suffice.
+ * carry, and those of 22, may be anything. 25 has no message, and is refused by 34 like every other number. out[0]:
+ * THALLUSWEB_TOLD, with the message's length in out[1] and the message at the front of the buffer (no 0 follows it); or
+ * THALLUSWEB_REFUSED, by 34 or 32, tested in this order, which leaves the buffer as it was. THALLUSWEB_MESSAGE bytes
+ * always suffice.
  * Cost: the message. */
 void thallusweb_message(uint64_t number, uint64_t first, uint64_t second, uint8_t *buffer, size_t buffer_len,
                         uint64_t out[5]);

@@ -49,7 +49,7 @@ mod c {
 }
 
 /// The version of the header that these bindings are written from.
-const VERSION: u32 = 4;
+const VERSION: u32 = 5;
 
 /// Stops the program if it is linked with a library of another version: its words would be misread. Asks once.
 #[inline]
@@ -63,8 +63,9 @@ fn same_version() {
     }
 }
 
-/// The bit of a settings word by which confusing characters are allowed.
+/// The bits of a settings word: confusing characters are allowed, and digits are strict.
 pub const ALLOW_CONFUSING: u32 = 1;
+pub const STRICT_DIGITS: u32 = 2;
 
 /// A buffer that holds every message.
 pub const MESSAGE: usize = 64;

@@ -81,7 +81,8 @@ pub enum SignToken {
     Minus,
 }
 
-/// Errors of lexing, and of names. `Display` is wast's message.
+/// Errors of lexing, and of names. `Display` is wast's message, but of [`DoubleUnderscore`](LexError::DoubleUnderscore), which wast does
+/// not have.
 #[derive(Debug, Clone, PartialEq, Eq)]
 #[non_exhaustive]
 pub enum LexError {
@@ -114,6 +115,8 @@ pub enum LexError {
     EmptyId,
     /// The name of an Annotation is empty.
     EmptyAnnotation,
+    /// An underscore follows another between the digits of a `\u{..}`, and digits are strict ([`Lexer::strict_digits`]).
+    DoubleUnderscore,
 }
 
 /// Where bytes stop being UTF-8: the counterpart of `std::str::Utf8Error`.
@@ -178,6 +181,7 @@ impl LexError {
             LexError::InvalidUtf8Id(error) => (22, [error.valid_up_to as u64, error.error_len.unwrap_or(0).into()]),
             LexError::EmptyId => (23, [0, 0]),
             LexError::EmptyAnnotation => (24, [0, 0]),
+            LexError::DoubleUnderscore => (25, [0, 0]),
         }
     }
 
@@ -198,6 +202,7 @@ impl LexError {
             22 => LexError::InvalidUtf8Id(Utf8Error::from_words(values)),
             23 => LexError::EmptyId,
             24 => LexError::EmptyAnnotation,
+            25 => LexError::DoubleUnderscore,
             _ => return None,
         })
     }
@@ -335,7 +340,7 @@ impl<'a> Lexer<'a> {
     /// How deep forms may stand in each other, the outer one being level 1.
     pub const LEVELS: usize = 64;
 
-    /// A lexer of a text, which refuses confusing characters.
+    /// A lexer of a text, which refuses confusing characters and whose digits are not strict.
     #[must_use]
     pub fn new(input: &str) -> Lexer<'_> {
         Lexer::with_settings(input, Settings::new())
@@ -347,7 +352,7 @@ impl<'a> Lexer<'a> {
         Lexer { input, settings }
     }
 
-    /// A lexer of bytes, which refuses confusing characters.
+    /// A lexer of bytes, with the settings of [`Lexer::new`].
     ///
     /// # Errors
     ///
@@ -377,6 +382,13 @@ impl<'a> Lexer<'a> {
     /// Whether the nine characters that turn the direction of text may stand raw in strings and comments.
     pub fn allow_confusing_unicode(&mut self, allow: bool) -> &mut Self {
         self.settings = self.settings.allow_confusing_unicode(allow);
+        self
+    }
+
+    /// Whether only a single underscore may stand between two digits of a `\u{..}`, as the WebAssembly standard has it; else any number may,
+    /// as in wast. See [`Settings::strict_digits`].
+    pub fn strict_digits(&mut self, strict: bool) -> &mut Self {
+        self.settings = self.settings.strict_digits(strict);
         self
     }
 

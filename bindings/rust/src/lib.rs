@@ -35,7 +35,8 @@
 //! * [`lexer::LexError`] has no `InvalidDigit`, which wast declares and never builds; its `InvalidUtf8Id` carries [`lexer::Utf8Error`],
 //!   our own type with the methods of `std::str::Utf8Error`.
 //! * [`Settings`] is a value that a builder makes and [`lexer::Lexer::with_settings`] takes, so that it can be a constant and serve many
-//!   texts; [`lexer::Lexer::allow_confusing_unicode`] is there as in wast.
+//!   texts; [`lexer::Lexer::allow_confusing_unicode`] is there as in wast. [`lexer::Lexer::strict_digits`], off by default, is the standard's
+//!   rule that wast does not have: with it on `"\u{1__0}"` is refused by [`lexer::LexError::DoubleUnderscore`].
 //! * The library checks at each call that what it is given is UTF-8. [`lexer::Lexer::parse`], [`annotation`](lexer::Lexer::annotation)
 //!   and [`iter`](lexer::Lexer::iter) give it windows of the text, and the readers just the token's own bytes, which is proved to give
 //!   the same: a loop over any of them takes time in line with the text. [`lexer::Lexer::fold`] goes by windows too, and takes time in

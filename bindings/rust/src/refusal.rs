@@ -191,6 +191,10 @@ impl From<Refusal> for Error {
 
 impl fmt::Display for LexError {
     fn fmt(&self, f: &mut fmt::Formatter<'_>) -> fmt::Result {
+        // the library has wast's messages alone, and refuses 25 by 34
+        if *self == LexError::DoubleUnderscore {
+            return f.write_str("two underscores in a row in a numeric literal");
+        }
         let (number, values) = self.words();
         let mut buffer = [0; ffi::MESSAGE];
         let [told, len, ..] = ffi::message(number, values, &mut buffer);

@@ -64,9 +64,9 @@ mod tests {
     use crate::lexer::{Iter, Token};
     use crate::{Settings, ffi};
 
-    const PIECES: [&str; 23] = [
-        "(", ")", "(;", ";)", ";;", "\n", " ", "a", "$", "@", "@x", "0x1_", ".5", "\"", "\\", "\\u{", "4_", "}", "é",
-        "\u{202e}", "😀", ",", "#",
+    const PIECES: [&str; 25] = [
+        "(", ")", "(;", ";)", ";;", "\n", " ", "a", "$", "@", "@x", "0x1_", ".5", "\"", "\\", "\\u{", "4_", "\"\\u{4_",
+        "_4", "}", "é", "\u{202e}", "😀", ",", "#",
     ];
 
     /// Texts of so many pieces, the same in each run.
@@ -79,8 +79,11 @@ mod tests {
         (0..count).map(move |_| (0..pieces).map(|_| piece()).collect())
     }
 
-    fn both(text: &str) -> [Lexer<'_>; 2] {
-        [false, true].map(|allow| Lexer::with_settings(text, Settings::new().allow_confusing_unicode(allow)))
+    /// A lexer with each of the settings.
+    fn lexers(text: &str) -> [Lexer<'_>; 4] {
+        [(false, false), (true, false), (false, true), (true, true)].map(|(allow, strict)| {
+            Lexer::with_settings(text, Settings::new().allow_confusing_unicode(allow).strict_digits(strict))
+        })
     }
 
     /// Every position that can be asked for, and some that cannot.
@@ -110,10 +113,12 @@ mod tests {
     /// Windows that begin with each size give what the library says of the whole text, at every position.
     #[test]
     fn windows_of_one_token_do_not_show() {
+        let mut doubles = 0;
         for text in texts(1_500, 8) {
-            for lexer in both(&text) {
+            for lexer in lexers(&text) {
                 for position in positions(&text) {
                     let whole = parsed_whole(&lexer, position);
+                    doubles += usize::from(whole.0.as_ref().is_err_and(|error| error.refusal().number() == 25));
                     let annotation = annotation_whole(&lexer, position);
                     for size in [1, 2, 3, 5, 8, FIRST] {
                         let shown = || format!("{text:?} at {position} by windows of {size}, {:?}", lexer.settings());
@@ -123,6 +128,7 @@ mod tests {
                 }
             }
         }
+        assert!(doubles > 0, "no answer is 25");
     }
 
     /// Texts of parentheses and these pieces, in which forms are nested less, just as and more deep than may be.
@@ -137,7 +143,7 @@ mod tests {
     fn windows_of_a_form_do_not_show() {
         let mut numbers = std::collections::BTreeSet::new();
         for text in texts(3_000, 8).chain(nests(1_000)) {
-            for lexer in both(&text) {
+            for lexer in lexers(&text) {
                 for position in positions(&text) {
                     let whole = folded_whole(&lexer, position);
                     numbers.insert(whole.as_ref().map_or_else(|error| error.refusal().number(), |_| 0));
@@ -148,7 +154,7 @@ mod tests {
                 }
             }
         }
-        for number in [0, 3, 4, 10, 11, 13, 14, 16, 17, 20, 21, 31, 41, 42] {
+        for number in [0, 3, 4, 10, 11, 13, 14, 16, 17, 20, 21, 25, 31, 41, 42] {
             assert!(numbers.contains(&number), "no answer has {number}");
         }
     }
@@ -158,7 +164,7 @@ mod tests {
     #[test]
     fn windows_of_a_listing_do_not_show() {
         for text in texts(3_000, 12) {
-            for lexer in both(&text) {
+            for lexer in lexers(&text) {
                 let mut position = 0;
                 let mut whole = Vec::new();
                 while whole.len() < 64 {
@@ -182,7 +188,7 @@ mod tests {
     fn refusals_are_the_librarys() {
         let long = " @ é".repeat(Lexer::MAX_TEXT / 5 + 1);
         for text in ["", "é@", "(;", &long] {
-            for lexer in both(text) {
+            for lexer in lexers(text) {
                 for position in (0..6).chain([text.len(), text.len() + 1, usize::MAX]) {
                     let whole = parsed_whole(&lexer, position);
                     if refused(text, position).is_some() {
@@ -206,7 +212,7 @@ mod tests {
         let late = format!("{}{}", "a ".repeat(25_000), "\"\\q".repeat(16_000));
         for text in ["(@a b) ", "\"\\q", "(;\u{202e};)@x ", &nested, &line, &string, &late] {
             let text = text.repeat(100_000 / text.len());
-            for lexer in both(&text) {
+            for lexer in lexers(&text) {
                 let before = ffi::handed();
                 let (mut position, mut calls) = (0, 0);
                 while position < text.len() {
@@ -238,7 +244,7 @@ mod tests {
             &deep,
         ] {
             let text = text.repeat(100_000 / text.len());
-            for lexer in both(&text) {
+            for lexer in lexers(&text) {
                 let before = ffi::handed();
                 let (mut position, mut calls, mut forms) = (0, 0, 0);
                 while position < text.len() {

@@ -172,6 +172,110 @@ fn settings() {
     }
 }
 
+/// Each setting by itself, whatever the other is.
+#[test]
+fn settings_are_independent() {
+    let strict = Settings::new().strict_digits(true);
+    assert_eq!((Settings::new().has_strict_digits(), strict.has_strict_digits()), (false, true));
+    assert_eq!(strict.strict_digits(false), Settings::new());
+    assert!(!strict.allows_confusing_unicode());
+    let both = strict.allow_confusing_unicode(true);
+    assert_eq!(both, Settings::new().allow_confusing_unicode(true).strict_digits(true));
+    assert_eq!((both.allow_confusing_unicode(false), both.allows_confusing_unicode()), (strict, true));
+    let mut lexer = Lexer::new("");
+    assert_eq!(lexer.strict_digits(true).settings(), strict);
+    assert_eq!(lexer.allow_confusing_unicode(true).settings(), both);
+    assert_eq!(lexer.strict_digits(false).allow_confusing_unicode(false).settings(), Settings::new());
+    let text = "\"\u{202e}\\u{1__0}\"";
+    for (allow, strict, number) in [(false, false, 21), (true, false, 0), (false, true, 21), (true, true, 25)] {
+        let mut lexer = Lexer::new(text);
+        let found = lexer.allow_confusing_unicode(allow).strict_digits(strict).parse(&mut 0);
+        assert_eq!(found.err().map_or(0, |error| error.refusal().number()), number);
+    }
+}
+
+/// The number and the place of a refusal, if there is one.
+type Refused = Option<(u64, usize)>;
+
+/// The request's examples, each with the setting off and on, asked of every call.
+#[test]
+fn strict_digits() {
+    let rows: [(&str, Refused, Refused); 16] = [
+        (r#""\u{1__0}""#, None, Some((25, 6))),
+        (r#""\u{1___0}""#, None, Some((25, 6))),
+        (r#""\u{1__}""#, Some((20, 6)), Some((25, 6))),
+        (r#""\u{1__"#, Some((20, 6)), Some((25, 6))),
+        (r#""\u{d8__00}""#, Some((19, 9)), Some((25, 7))),
+        (r#""\u{1__fffffffff}""#, Some((18, 14)), Some((25, 6))),
+        (r#""\u{1__0}\q""#, Some((13, 10)), Some((25, 6))),
+        // the same with both
+        (r#""\u{1_0}""#, None, None),
+        (r#""\u{10}""#, None, None),
+        (r#""\u{1_}""#, Some((20, 5)), Some((20, 5))),
+        (r#""\u{1_"#, Some((20, 5)), Some((20, 5))),
+        (r#""\u{_1}""#, Some((14, 4)), Some((14, 4))),
+        (r#""\u{fffffffff__"#, Some((18, 12)), Some((18, 12))),
+        (r#""\\u{1__0}""#, None, None),
+        (r#""__""#, None, None),
+        ("1__0", None, None),
+    ];
+    for (text, off, on) in rows {
+        let named = format!("@{text}");
+        let form = format!("(a {text})");
+        for (strict, expected) in [(false, off), (true, on)] {
+            let settings = Settings::new().strict_digits(strict);
+            let told = |error: &Error| (error.refusal().number(), error.place().unwrap());
+            let moved = |by: usize| expected.map(|(number, place)| (number, place + by));
+            let lexer = Lexer::with_settings(text, settings);
+            let mut position = 0;
+            let parsed = lexer.parse(&mut position);
+            assert_eq!(parsed.as_ref().err().map(told), expected, "{text}, {settings:?}");
+            // past the last character read
+            assert_eq!(position, expected.map_or(text.len(), |(_, place)| place + 1), "{text}, {settings:?}");
+            let item = lexer.iter(0).next().unwrap();
+            assert_eq!(item, parsed.clone().map(Option::unwrap), "{text}, {settings:?}");
+            let Listed { stop, count, position: listed } = lexer.list(0, 1, &mut [0; Lexer::RECORD]);
+            let stopped = if let Stop::Error(error) = &stop { Some(told(error)) } else { None };
+            assert_eq!((stopped, listed), (expected, position), "{text}, {settings:?}");
+            assert_eq!(count, usize::from(expected.is_none()), "{text}, {settings:?}");
+            let annotation = Lexer::with_settings(&named, settings).annotation(0);
+            assert_eq!(annotation.err().as_ref().map(told), moved(1), "{named}, {settings:?}");
+            // a string that is not closed takes the form's `)`
+            if !text.ends_with('_') {
+                let folded = Lexer::with_settings(&form, settings).fold(0);
+                assert_eq!(folded.err().as_ref().map(told), moved(3), "{form}, {settings:?}");
+            }
+            // what lexes strictly is read as it was
+            if let (true, Ok(Some(token))) = (strict, parsed) {
+                let lenient = Lexer::new(text).parse(&mut 0).unwrap().unwrap();
+                assert_eq!(token, lenient, "{text}");
+                let readers = [Reader::Src, Reader::String, Reader::Id];
+                for reader in readers {
+                    assert_eq!(token.read(text, reader), lenient.read(text, reader), "{text}, {reader:?}");
+                }
+                assert!(token.read(text, Reader::Src).is_ok(), "{text}");
+            }
+        }
+    }
+    let strict = Settings::new().strict_digits(true);
+    let text = r#"$"\u{1_0}" "\u{1__0}" 7"#;
+    let kinds: Vec<_> = Lexer::with_settings(text, strict).iter(0).map(|item| item.map(|token| token.kind)).collect();
+    assert_eq!(kinds[0], Ok(TokenKind::Id));
+    let error = kinds[2].clone().unwrap_err();
+    assert_eq!(error.lex_error(), Some(&LexError::DoubleUnderscore));
+    assert_eq!(error.to_string(), "two underscores in a row in a numeric literal at byte 17");
+    assert_eq!(error.linecol_in(text), Some((0, 17)));
+    // and goes on behind the underscore, with `0`
+    assert!(matches!(kinds[3], Ok(TokenKind::Integer(_))));
+    // the readers lex without the setting, and so have the value of what is refused with it
+    let lexer = Lexer::with_settings(text, strict);
+    let name = lexer.parse(&mut 0).unwrap().unwrap();
+    assert_eq!(name.id(text).unwrap(), "\u{10}");
+    let refused = Lexer::new(text).parse(&mut { 11 }).unwrap().unwrap();
+    assert!(lexer.parse(&mut { 11 }).is_err());
+    assert_eq!(refused.read(text, Reader::String).unwrap().unwrap()[..], [0x10]);
+}
+
 #[test]
 fn nothing_panics() {
     let text = "é(;\u{202e};)\"\\u{d800}\" $\"\" 0x";
@@ -260,6 +364,7 @@ fn refusals() {
         (21, LexError::ConfusingUnicode('\u{202e}'), "likely-confusing unicode character found '\\u{202e}'"),
         (23, LexError::EmptyId, "empty identifier"),
         (24, LexError::EmptyAnnotation, "empty annotation id"),
+        (25, LexError::DoubleUnderscore, "two underscores in a row in a numeric literal"),
     ];
     for (number, error, message) in lex {
         assert_eq!(error.to_string(), message);
