@@ -3,7 +3,8 @@ import dataclasses
 import random
 import re
 
-from .terms import ERRORS, FULL, KINDS, REFUSALS, applied, error, flag, float_kind, integer_kind, kind, listed
+from .terms import ERRORS, FULL, KINDS, REFUSALS, SETTINGS
+from .terms import applied, error, flag, float_kind, integer_kind, kind, listed
 
 
 @dataclasses.dataclass
@@ -34,7 +35,7 @@ def lex_row(line):
         number, *data, place, after = numbers
         answer = f"{number} {ERRORS[number][0]}"
         right = f"answer.Fault (fault {error(number, data)} {place} {after})"
-    return Row(line, answer, f"lex {setting} {listed(text)}", right, column=setting, shown=repr(text))
+    return Row(line, answer, f"lex {SETTINGS[setting]} {listed(text)}", right, column=setting, shown=repr(text))
 
 
 def utf8_row(line):
@@ -61,7 +62,7 @@ def kind_row(line):
 
 
 def error_row(line):
-    """An error by the name that the original has for it."""
+    """An error by the name that the original has for it, or the definitions for their own."""
     shown, number = line.split(" is ")
     name, *data = shown.split()
     data = data[: dict(ERRORS.values())[name]]

@@ -10,7 +10,7 @@ from collections.abc import Callable
 
 from . import computed
 from .readers import reader_row
-from .terms import ERRORS, KINDS, READERS
+from .terms import ERRORS, KINDS, NAMES, READERS, SETTINGS
 from .words import WORDED, word_rows
 
 PROJECT = pathlib.Path(__file__).resolve().parent.parent.parent
@@ -160,7 +160,7 @@ class Sort:
 
 
 TOKENS = [f"{number} {name}" for number, name in KINDS.items()]
-FAULTS = [f"{number} {name}" for number, (name, _) in ERRORS.items() if number < 22]
+FAULTS = [f"{number} {name}" for number, (name, _) in ERRORS.items() if number not in NAMES]
 SORTS = [
     Sort(
         name="lex",
@@ -171,7 +171,7 @@ SORTS = [
         imports=LEX_IMPORTS,
         opened=LEX_OPENED,
         answers=["end", *TOKENS, *FAULTS],
-        columns=["plain", "lenient"],
+        columns=[*SETTINGS],
     ),
     Sort(
         name="utf8",

@@ -18,7 +18,15 @@ KINDS = {
     15: "Normal",
 }
 PLUS, MINUS, UNDERSCORES, HEX = 256, 512, 1024, 2048
-# each error, and how many data it carries; readers alone give the last three
+# the settings of lexing by the oracle's names: those that the definitions name, and the two with strict digits
+SETTINGS = {
+    "plain": "plain",
+    "lenient": "lenient",
+    "strict": "(record { «allow_confusing» = false; «strict_digits» = true })",
+    "both": "(record { «allow_confusing» = true; «strict_digits» = true })",
+}
+# each error, and how many data it carries; readers alone give those of names
+NAMES = {22, 23, 24}
 ERRORS = {
     10: ("DanglingBlockComment", 0),
     11: ("Unexpected", 1),
@@ -34,6 +42,7 @@ ERRORS = {
     22: ("InvalidUtf8Id", 2),
     23: ("EmptyId", 0),
     24: ("EmptyAnnotation", 0),
+    25: ("DoubleUnderscore", 0),
 }
 # the refusals that the original does not have (rules 1, 11 and 13)
 REFUSALS = {

@@ -1,7 +1,7 @@
-//! The Rust bindings beside the original: the same text asked of both, in every way that the bindings have, with both flags. What
+//! The Rust bindings beside the original: the same text asked of both, in every way that the bindings have, with all settings. What
 //! docs/RULES.md adds to the Rust is expected by its rule, as `compare.rs` and `reading.rs` expect it of the C calls.
 
-use crate::compare::{self, CANARY, MARGIN, shown};
+use crate::compare::{self, CANARY, MARGIN, Refusals, shown};
 use crate::forms;
 use crate::integers;
 use crate::ours::{self as c, Found, Listed, Reading, Refused, Words};
@@ -10,12 +10,33 @@ use oracle::lexer as wast;
 use oracle::listing::RECORD;
 use oracle::texts::Texts;
 use oracle::token::Span;
+use oracle::{Answer, Oracle, Settings as Asking};
 use std::borrow::Cow;
 use thallusweb::lexer::{self as ours, LexError, Reader};
 use thallusweb::{Error, Place, Refusal, Settings};
 
 /// How many tokens and errors of one text are asked for: `iter` may repeat an error for ever.
 const MOST: usize = 64;
+
+/// The calls that lex.
+#[derive(Clone, Copy)]
+enum Call {
+    Parse,
+    Annotation,
+    Iter,
+    List,
+    Fold,
+}
+
+/// Their names, and how often each refusal was the answer of one.
+pub const CALLS: [&str; 5] = ["parse", "annotation", "iter", "list", "fold"];
+type Met = [Refusals; CALLS.len()];
+
+/// 25 is ours, and so is its message.
+const DOUBLE: &str = "two underscores in a row in a numeric literal";
+
+/// The settings of the readers.
+const READERS_LEX_WITH: Asking = Asking { allow_confusing: true, strict_digits: false };
 
 /// The readers, in the order of their numbers.
 const READERS: [Reader; 9] = [
@@ -30,11 +51,11 @@ const READERS: [Reader; 9] = [
     Reader::Payload,
 ];
 
-/// A text, the flag with which it is lexed, and the bindings' lexer for both.
+/// A text, the settings with which it is lexed, and the bindings' lexer for both.
 #[derive(Clone, Copy)]
 struct Asked<'a> {
     text: &'a str,
-    flag: bool,
+    settings: Asking,
     lexer: ours::Lexer<'a>,
 }
 
@@ -60,6 +81,7 @@ fn refused(error: &Error) -> Refused {
         Refusal::Lex(LexError::InvalidUtf8Id(ref error)) => (22, lengths(error)),
         Refusal::Lex(LexError::EmptyId) => (23, [0, 0]),
         Refusal::Lex(LexError::EmptyAnnotation) => (24, [0, 0]),
+        Refusal::Lex(LexError::DoubleUnderscore) => (25, [0, 0]),
         Refusal::NotThatToken => (30, [0, 0]),
         Refusal::NotThatKind => (31, [0, 0]),
         Refusal::OutOfRange => (40, [0, 0]),
@@ -71,7 +93,8 @@ fn refused(error: &Error) -> Refused {
     assert_eq!(error.place().is_none(), (30..=40).contains(&number), "bindings, whether {error:?} stands somewhere");
     let message = error.message();
     if (10..30).contains(&number) {
-        let expected = oracle::numbers::message(number as u8, values.map(|value| value as u32));
+        let wast = oracle::numbers::message(number as u8, values.map(|value| value as u32));
+        let expected = if number == 25 { Some(DOUBLE.to_string()) } else { wast };
         assert_eq!(Some(&message), expected.as_ref(), "bindings, the message of {error:?}");
         assert_eq!(error.lex_error().map(ToString::to_string), expected, "bindings, the lexing error of {error:?}");
     } else {
@@ -94,13 +117,23 @@ fn found(found: Result<Option<ours::Token>, Error>) -> Found {
     }
 }
 
-/// Lexers of a text with a flag: set on, built with, and turned round twice.
-fn lexers(text: &str, flag: bool) -> [ours::Lexer<'_>; 3] {
+/// Counts the refusal of a call, if it is one.
+fn tally(met: &mut Met, call: Call, refused: Option<Refused>) {
+    if let Some(refused) = refused {
+        *met[call as usize].entry(refused.number).or_default() += 1;
+    }
+}
+
+/// Lexers of a text with settings: set on, built with, and turned round twice.
+fn lexers(text: &str, settings: Asking) -> [ours::Lexer<'_>; 3] {
+    let Asking { allow_confusing, strict_digits } = settings;
     let mut set = ours::Lexer::new(text);
-    set.allow_confusing_unicode(flag);
-    let built = ours::Lexer::with_settings(text, Settings::new().allow_confusing_unicode(flag));
+    set.allow_confusing_unicode(allow_confusing).strict_digits(strict_digits);
+    let built = Settings::new().strict_digits(strict_digits).allow_confusing_unicode(allow_confusing);
+    let built = ours::Lexer::with_settings(text, built);
     let mut turned = built;
-    turned.allow_confusing_unicode(!flag).allow_confusing_unicode(flag);
+    turned.allow_confusing_unicode(!allow_confusing).strict_digits(!strict_digits);
+    turned.allow_confusing_unicode(allow_confusing).strict_digits(strict_digits);
     [set, built, turned]
 }
 
@@ -147,14 +180,14 @@ pub fn moves(pieces: &[&[u8]]) -> u64 {
 }
 
 /// The ends of forms at some positions. Answers how many answers there were.
-pub fn folds(text: &str, flag: bool, positions: impl Iterator<Item = usize>) -> u64 {
-    let asked = Asked { text, flag, lexer: lexers(text, flag)[0] };
-    positions.map(|position| asked.fold(position)).sum()
+pub fn folds(text: &str, settings: Asking, positions: impl Iterator<Item = usize>, met: &mut Met) -> u64 {
+    let asked = Asked { text, settings, lexer: lexers(text, settings)[0] };
+    positions.map(|position| asked.fold(position, met)).sum()
 }
 
 impl Asked<'_> {
     fn of(&self, what: &str) -> String {
-        format!("bindings, {what} of {}, flag {}", shown(self.text.as_bytes()), self.flag)
+        format!("bindings, {what} of {}, {:?}", shown(self.text.as_bytes()), self.settings)
     }
 
     /// As both print it.
@@ -220,19 +253,40 @@ impl Asked<'_> {
         count
     }
 
+    /// The original's `iter` from a start on; with strict digits, which it does not have, the model's tokens one after the other.
+    fn originals(&self, start: usize) -> Vec<Result<wast::Token, Refused>> {
+        if !self.settings.strict_digits {
+            let mut original = wast::Lexer::new(self.text);
+            original.allow_confusing_unicode(self.settings.allow_confusing);
+            let items = original.iter(start).take(MOST);
+            return items.map(|item| item.map_err(|error| compare::passed_on(error.into()))).collect();
+        }
+        let oracle = Oracle::with_settings(self.text, self.settings);
+        let mut position = start;
+        let next = || {
+            let (answer, after) = oracle.parse(position);
+            position = after;
+            match answer {
+                Answer::End => None,
+                Answer::Token(token) => Some(Ok(token.0)),
+                Answer::Fault(fault) => Some(Err(compare::passed_on(fault))),
+            }
+        };
+        std::iter::from_fn(next).take(MOST).collect()
+    }
+
     /// `iter` from a start on, item by item, with the values of its tokens.
-    fn items(&self, start: usize) -> u64 {
-        let mut original = wast::Lexer::new(self.text);
-        original.allow_confusing_unicode(self.flag);
+    fn items(&self, start: usize, met: &mut Met) -> u64 {
         let mut items = self.lexer.iter(start).take(MOST);
-        let mut originals = original.iter(start).take(MOST);
+        let mut originals = self.originals(start).into_iter();
         let mut count = 0;
         loop {
             match (items.next(), originals.next()) {
                 (None, None) => return count,
                 (Some(Ok(token)), Some(Ok(original))) => self.value(&token, &original),
                 (Some(Err(error)), Some(Err(original))) => {
-                    self.same("an error", refused(&error), compare::passed_on(original.into()));
+                    self.same("an error", refused(&error), original);
+                    tally(met, Call::Iter, Some(original));
                 }
                 (found, original) => panic!("{found:?} beside {original:?}, {}", self.of("an item")),
             }
@@ -241,22 +295,23 @@ impl Asked<'_> {
     }
 
     /// The end of the form at a position.
-    fn fold(&self, position: usize) -> u64 {
+    fn fold(&self, position: usize, met: &mut Met) -> u64 {
         let folded = self.lexer.fold(position).map(|end| end as u64).map_err(|error| refused(&error));
-        let expected = forms::expected(self.text.as_bytes(), self.flag, position);
+        let expected = forms::expected(self.text.as_bytes(), self.settings, position);
         assert_eq!(folded, expected, "{} at {position}", self.of("the form's end"));
+        tally(met, Call::Fold, expected.err());
         1
     }
 
     /// One token, the annotation, the place and the form's end at a position, and every reader of the token.
-    fn position(&self, position: usize) -> u64 {
+    fn position(&self, position: usize, met: &mut Met) -> u64 {
         let text = self.text.as_bytes();
         let at = || format!("{} at {position}", self.of("one token, annotation or place"));
         let mut after = position;
         let parsed = self.lexer.parse(&mut after);
         let readings = match &parsed {
-            // what lexes with the flag off lexes with it on
-            Ok(Some(token)) if self.flag => self.readings(*token),
+            // what lexes with any settings is this token with these
+            Ok(Some(token)) if self.settings == READERS_LEX_WITH => self.readings(*token),
             Err(error) => {
                 let before = error.place().and_then(|place| text.get(..place));
                 let place = before.and_then(|before| places::expected([1, 1, 0], before));
@@ -272,14 +327,16 @@ impl Asked<'_> {
             }
             _ => 0,
         };
-        let expected = compare::expected_token(text, self.flag, position);
+        let expected = compare::expected_token(text, self.settings, position);
         assert_eq!((found(parsed), after as u64), expected, "{}", at());
+        tally(met, Call::Parse, expected.0.refused());
         if let Found::Refused(Refused { number: 3 | 4, .. }) = expected.0 {
             let item = self.lexer.iter(position).next();
             assert_eq!(item.map(|item| found(item.map(Some))), Some(expected.0), "{}", at());
         }
-        let annotation = compare::expected_annotation(text, self.flag, position);
+        let annotation = compare::expected_annotation(text, self.settings, position);
         assert_eq!(found(self.lexer.annotation(position)), annotation, "{}", at());
+        tally(met, Call::Annotation, annotation.refused());
         let counted = self.lexer.place(position);
         if let Ok(mut counter) = counted.clone() {
             counter.move_over(&text[position..]).expect("a short text");
@@ -291,16 +348,17 @@ impl Asked<'_> {
         };
         let counted = counted.map(|place| [place.line(), place.column()]).map_err(|error| refused(&error));
         assert_eq!(counted, expected.map(|[line, column, _]| [line, column]), "{}", at());
-        readings + 3 + self.fold(position)
+        readings + 3 + self.fold(position, met)
     }
 
     /// A listing: its report, every byte of the list, and the bytes around it.
-    fn listing(&self, start: usize, budget: usize, room: usize) -> u64 {
+    fn listing(&self, start: usize, budget: usize, room: usize, met: &mut Met) -> u64 {
         let mut expected_list = vec![CANARY; room + 2 * MARGIN];
         let mut list = expected_list.clone();
         let middle = MARGIN..MARGIN + room;
         let text = self.text.as_bytes();
-        let expected = compare::expected_listing(text, self.flag, start, budget, &mut expected_list[middle.clone()]);
+        let list_there = &mut expected_list[middle.clone()];
+        let expected = compare::expected_listing(text, self.settings, start, budget, list_there);
         let listed = self.lexer.list(start, budget, &mut list[middle]);
         let stop = match &listed.stop {
             ours::Stop::End => c::Stop::End,
@@ -312,29 +370,33 @@ impl Asked<'_> {
         let asked = || format!("{} from {start}, budget {budget}, room {room}", self.of("the listing"));
         assert_eq!(listed, expected, "{}", asked());
         assert!(list == expected_list, "bytes of the list, {}", asked());
+        if let c::Stop::Refused(refused) = expected.stop {
+            tally(met, Call::List, Some(refused));
+        }
         1
     }
 }
 
 /// Compares all that can be asked of a text; answers how many answers there were. `number` is the text's own.
-pub fn text(text: &str, number: u64) -> u64 {
+pub fn text(text: &str, number: u64, met: &mut Met) -> u64 {
     let mut chance = Texts::new(number);
     let mut count = 0;
-    for flag in [false, true] {
-        let [lexer, others @ ..] = lexers(text, flag);
+    for &settings in compare::asked(text.as_bytes(), number) {
+        let [lexer, others @ ..] = lexers(text, settings);
         for other in others {
             assert_eq!((other.settings(), other.input()), (lexer.settings(), text), "bindings, of lexers");
         }
-        assert_eq!(lexer.settings().allows_confusing_unicode(), flag, "bindings, of settings");
-        let asked = Asked { text, flag, lexer: [lexer, others[0], others[1]][chance.below(3)] };
-        count += asked.items(0) + asked.items(chance.boundary(text));
+        let told = (lexer.settings().allows_confusing_unicode(), lexer.settings().has_strict_digits());
+        assert_eq!(told, (settings.allow_confusing, settings.strict_digits), "bindings, of settings");
+        let asked = Asked { text, settings, lexer: [lexer, others[0], others[1]][chance.below(3)] };
+        count += asked.items(0, met) + asked.items(chance.boundary(text), met);
         for position in (0..text.len() + 3).chain([usize::MAX]) {
-            count += asked.position(position);
+            count += asked.position(position, met);
         }
-        count += asked.listing(0, usize::MAX, RECORD * text.len());
-        count += asked.listing(chance.below(text.len() + 2), chance.below(5), chance.below(4 * RECORD));
-        count += asked.listing(chance.boundary(text), chance.below(3), 4 * RECORD);
-        count += asked.listing(chance.boundary(text), usize::MAX, chance.below(3 * RECORD));
+        count += asked.listing(0, usize::MAX, RECORD * text.len(), met);
+        count += asked.listing(chance.below(text.len() + 2), chance.below(5), chance.below(4 * RECORD), met);
+        count += asked.listing(chance.boundary(text), chance.below(3), 4 * RECORD, met);
+        count += asked.listing(chance.boundary(text), usize::MAX, chance.below(3 * RECORD), met);
     }
     count + moves(&[text.as_bytes()]) + bytes(text.as_bytes())
 }
@@ -348,8 +410,8 @@ pub fn bytes(bytes: &[u8]) -> u64 {
     assert_eq!(checked.map_err(|error| numbers(&error)), original, "bindings, check_utf8 of {}", shown(bytes));
     assert_eq!(checked, expected.map(|_| ()).map_err(ours::Utf8Error::from), "bindings, an error of {}", shown(bytes));
     let lexer = ours::Lexer::from_bytes(bytes).map_err(|error| refused(&error));
-    let lexer = lexer.map(|lexer| (lexer.input(), lexer.settings().allows_confusing_unicode()));
-    let expected = compare::turned(bytes, 0).map(|text| (text, false));
+    let lexer = lexer.map(|lexer| (lexer.input(), lexer.settings()));
+    let expected = compare::turned(bytes, 0).map(|text| (text, Settings::new()));
     assert_eq!(lexer, expected, "bindings, from_bytes of {}", shown(bytes));
     2
 }
@@ -359,7 +421,7 @@ pub fn limits() {
     let mut text = " ".repeat(16_777_217);
     let long = Refused { number: 1, values: [0, 0], place: 3 };
     let from_bytes = |text: &str| ours::Lexer::from_bytes(text.as_bytes()).map_err(|error| refused(&error)).map(|_| ());
-    for lexer in lexers(&text, true) {
+    for lexer in lexers(&text, Asking { allow_confusing: true, strict_digits: true }) {
         let mut position = 3;
         assert_eq!((found(lexer.parse(&mut position)), position), (Found::Refused(long), 3));
         assert_eq!(found(lexer.annotation(3)), Found::Refused(long));
@@ -372,7 +434,7 @@ pub fn limits() {
     assert_eq!(from_bytes(&text), Err(Refused { place: 0, ..long }));
     text.pop();
     assert_eq!(from_bytes(&text), Ok(()));
-    for lexer in lexers(&text, false) {
+    for lexer in lexers(&text, Asking::default()) {
         let all = Found::Token { kind: 3, offset: 0, len: 16_777_216 };
         let mut position = 0;
         assert_eq!((found(lexer.parse(&mut position)), position), (all, 16_777_216));

@@ -3,13 +3,13 @@
 //! may be, and random nests.
 
 use crate::bindings;
-use crate::compare::{Counts, ignored, passed_on, refused, shown, turned, words};
+use crate::compare::{Counts, asked, ignored, passed_on, refused, shown, turned, words};
 use crate::ours::{self, Refused, c};
 use crate::reading::nowhere;
-use oracle::Oracle;
 use oracle::forms::{LEVELS, Unfolded};
 use oracle::nests;
 use oracle::texts::Texts;
+use oracle::{Oracle, Settings};
 
 /// The grammar has texts of so many more symbols than that of `main.rs`, since it has fewer.
 const MORE: usize = 2;
@@ -23,11 +23,11 @@ const FRONT: usize = 4;
 const ANYWHERE: usize = 6;
 
 /// All refusals but 1, which takes a text of its own.
-pub const REFUSALS: [u64; 17] = [2, 3, 4, 10, 11, 12, 13, 14, 16, 17, 18, 19, 20, 21, 31, 41, 42];
+pub const REFUSALS: [u64; 18] = [2, 3, 4, 10, 11, 12, 13, 14, 16, 17, 18, 19, 20, 21, 25, 31, 41, 42];
 
 /// The position past the form, by the model: 1 to 4, then what the model says.
-pub fn expected(bytes: &[u8], flag: bool, position: usize) -> Result<u64, Refused> {
-    let folded = Oracle::new(turned(bytes, position)?, flag).fold(position);
+pub fn expected(bytes: &[u8], settings: Settings, position: usize) -> Result<u64, Refused> {
+    let folded = Oracle::with_settings(turned(bytes, position)?, settings).fold(position);
     folded.map(|end| end as u64).map_err(|unfolded| match unfolded {
         Unfolded::NoForm => nowhere(31),
         Unfolded::Fault(fault) => passed_on(fault),
@@ -37,10 +37,10 @@ pub fn expected(bytes: &[u8], flag: bool, position: usize) -> Result<u64, Refuse
 }
 
 impl Counts {
-    /// Compares the call at a position, asked with both words of the flag.
-    pub fn fold(&mut self, bytes: &[u8], flag: bool, ignored: u32, position: usize) {
-        let expected = expected(bytes, flag, position);
-        for settings in words(flag, ignored) {
+    /// Compares the call at a position, asked with both words of the settings.
+    pub fn fold(&mut self, bytes: &[u8], settings: Settings, ignored: u32, position: usize) {
+        let expected = expected(bytes, settings, position);
+        for settings in words(settings, ignored) {
             let folded = ours::fold(bytes, settings, position);
             assert_eq!(folded, expected, "the form's end of {} at {position}, settings {settings:#x}", shown(bytes));
         }
@@ -50,16 +50,16 @@ impl Counts {
         }
     }
 
-    /// Compares the call at some positions of a text, with both flags, and the bindings' where it is one.
+    /// Compares the call at some positions of a text, and the bindings' where it is one.
     fn nest(&mut self, bytes: &[u8], positions: impl Iterator<Item = usize> + Clone) {
         self.nests += 1;
         let ignored = ignored(self.nests);
-        for flag in [false, true] {
+        for &settings in asked(bytes, self.nests) {
             for position in positions.clone() {
-                self.fold(bytes, flag, ignored, position);
+                self.fold(bytes, settings, ignored, position);
             }
             if let Ok(text) = std::str::from_utf8(bytes) {
-                self.items += bindings::folds(text, flag, positions.clone());
+                self.items += bindings::folds(text, settings, positions.clone(), &mut self.item_refusals);
             }
         }
     }
@@ -135,7 +135,7 @@ pub fn limits() {
     for (text, position, number) in ORDER {
         let refused = ours::fold(text, 0, position).map_err(|refused| refused.number);
         assert_eq!(refused, Err(number), "the refusal of {} at {position}", shown(text));
-        counts.fold(text, false, ours::IGNORED, position);
+        counts.fold(text, Settings::default(), ours::IGNORED, position);
     }
     let mut chance = Texts::new(LEVELS as u64);
     let mut deep = 0;

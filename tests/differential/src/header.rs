@@ -45,6 +45,13 @@ const ERRORS: [(&[u8], usize, u64); 14] = [
     ("\"\u{202e}\"".as_bytes(), 0, c::CONFUSING_UNICODE),
 ];
 
+/// A text, a setting, and by what the call for one token is refused without the setting and with it, 0 for not at all.
+const SETTINGS: [(&[u8], u64, u64, u64); 3] = [
+    ("\"\u{202e}\"".as_bytes(), c::ALLOW_CONFUSING, c::CONFUSING_UNICODE, 0),
+    (b"\"\\u{1__0}\"", c::STRICT_DIGITS, 0, c::DOUBLE_UNDERSCORE),
+    (b"\"\\u{1__}\"", c::STRICT_DIGITS, c::LONE_UNDERSCORE, c::DOUBLE_UNDERSCORE),
+];
+
 /// A token, a reader, and the bytes that it gives.
 const READERS: [(&str, u64, &str); 9] = [
     ("-1.2e3", c::SRC, "-1.2e3"),
@@ -87,13 +94,21 @@ pub fn holds() {
         assert_eq!(token(text)[0], kind, "the header's kind of {text:?}");
     }
     assert_eq!(c::KIND_MASK + 1, c::KIND_PLUS, "the mask is what lies under the bits");
-    assert!(c::ALLOW_CONFUSING.is_power_of_two(), "a setting is one bit");
+    assert!(c::ALLOW_CONFUSING.is_power_of_two() && c::STRICT_DIGITS.is_power_of_two(), "a setting is one bit");
     for (text, position, number) in ERRORS {
         match ours::parse(text, 0, position).0 {
             Found::Refused(refused) => assert_eq!(refused.number, number, "the header's refusal of {}", shown(text)),
             found => panic!("{} is refused by {number}, not {found:?}", shown(text)),
         }
     }
+    for (text, setting, off, on) in SETTINGS {
+        // of the text no other setting says anything
+        for (settings, number) in [(0, off), (!setting, off), (setting, on), (u64::MAX, on)] {
+            let refused = ours::parse(text, settings as u32, 0).0.refused().map_or(0, |refused| refused.number);
+            assert_eq!(refused, number, "the header's setting {setting} for {}, as {settings:#x}", shown(text));
+        }
+    }
+    assert_eq!(ours::message(c::DOUBLE_UNDERSCORE, [0, 0], &mut [0; c::MESSAGE as usize]), Err(c::NO_MESSAGE));
     for (text, reader, value) in READERS {
         match ours::read(text.as_bytes(), reader, token(text), &mut []) {
             Reading::Text { start, len } => {

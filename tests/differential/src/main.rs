@@ -2,6 +2,7 @@
 
 mod bindings;
 mod compare;
+mod escapes;
 mod forms;
 mod header;
 mod integers;
@@ -10,6 +11,7 @@ mod places;
 mod reading;
 
 use compare::Counts;
+use oracle::Settings;
 use oracle::texts::{Texts, every};
 use std::process::ExitCode;
 use std::sync::atomic::{AtomicU64, Ordering};
@@ -22,8 +24,8 @@ differential: Thallusweb against the Rust original
   differential [--bytes N] [--symbols N] [--random N] [--seed S]
       --bytes N     every byte string of up to N bytes (default 2)
       --symbols N   every text of up to N symbols of a telling alphabet, every literal of an integer of up to N
-                    parts, every nest of forms of up to N + 2 symbols, and every string of up to N + 3 bytes that
-                    are a CR, a LF or another (default 4)
+                    parts, every escape \\u{..} of up to N + 1 parts, every nest of forms of up to N + 2 symbols, and
+                    every string of up to N + 3 bytes that are a CR, a LF or another (default 4)
       --random N    so many random texts, whole, cut and damaged, random byte strings, literals of integers, and
                     byte strings with line ends, and a fifth as many nests of forms (default 100000)
       --seed S      of the random texts (default 1)
@@ -41,7 +43,7 @@ const MOST_OF_BINDINGS: usize = 3;
 /// One in so many random texts is followed by two long ones, of which more is alike than is looked at together.
 const LONG_ONES: usize = 5;
 
-/// So many random texts, or more, must have every answer for a form's end among them.
+/// So many random texts, or more, must have every answer for a form's end among them, and 25 of every call that lexes.
 const ENOUGH: u64 = 5_000;
 
 /// The texts are shared out in so many parts, each with random numbers of its own, and the threads take one after the other: what is compared
@@ -83,7 +85,7 @@ fn limits(counts: &mut Counts) {
     let listed = ours::list(&text, 0, 3, 9, &mut list);
     assert_eq!((listed.stop, listed.count, listed.position, list), (ours::Stop::Refused(long), 0, 3, [7; 12]));
     text.pop();
-    counts.listing(&text, false, ours::IGNORED, 0, usize::MAX, 12);
+    counts.listing(&text, Settings::default(), ours::IGNORED, 0, usize::MAX, 12);
 }
 
 /// Compares the texts of one share: every `SHARES`th of those that are listed, and its part of the random ones.
@@ -105,7 +107,8 @@ fn share(options: &Options, which: u64) -> Counts {
     let mut turn = 0;
     every(&telling, options.symbols.min(MOST_OF_BINDINGS), &mut Vec::new(), &mut |text| {
         if turn % SHARES == which {
-            counts.items += bindings::text(std::str::from_utf8(text).expect("symbols are UTF-8"), turn);
+            let text = std::str::from_utf8(text).expect("symbols are UTF-8");
+            counts.items += bindings::text(text, turn, &mut counts.item_refusals);
         }
         turn += 1;
     });
@@ -113,21 +116,28 @@ fn share(options: &Options, which: u64) -> Counts {
         let limit = [8, 24, 60, 200][chance.below(4)];
         let text = chance.text(limit);
         counts.text(text.as_bytes(), &mut chance);
-        counts.items += bindings::text(&text, counts.texts);
+        counts.items += bindings::text(&text, counts.texts, &mut counts.item_refusals);
         let bytes = chance.bytes(limit);
         counts.text(&bytes, &mut chance);
         counts.items += bindings::bytes(&bytes);
         if chance.below(LONG_ONES) == 0 {
             let text = chance.long();
             counts.text(text.as_bytes(), &mut chance);
-            counts.items += bindings::text(&text, counts.texts);
+            counts.items += bindings::text(&text, counts.texts, &mut counts.item_refusals);
             counts.text(&chance.long_bytes(), &mut chance);
         }
     }
+    counts.escapes((which, SHARES), options.symbols);
     counts.literals((which, SHARES), options.symbols, options.random, options.seed);
     counts.nests((which, SHARES), options.symbols, options.random, options.seed);
     counts.line_ends((which, SHARES), options.symbols, options.random, options.seed);
     counts
+}
+
+/// Prints how often each refusal was met.
+fn told(what: &str, refusals: &compare::Refusals) {
+    let seen = refusals.iter().map(|(number, count)| format!("{number}: {count}"));
+    println!("refusals of {what} by number: {}", seen.collect::<Vec<_>>().join(", "));
 }
 
 fn main() -> ExitCode {
@@ -140,6 +150,7 @@ fn main() -> ExitCode {
     header::holds();
     limits(&mut counts);
     integers::limits(&mut counts);
+    escapes::limits();
     forms::limits();
     bindings::limits();
     let next = AtomicU64::new(0);
@@ -177,19 +188,26 @@ fn main() -> ExitCode {
         counts.folds, counts.nests
     );
     println!("{} answers of the Rust bindings agree", counts.items);
+    println!("{} escapes agree, and {} tokens of strict lexing are the readers'", counts.escapes, counts.strictly);
     if options.random >= ENOUGH {
         assert!(0 < full && full < moves, "of {moves} moves {full} are refused");
         assert!(ends > 0, "no form ends");
         let met = |number: &u64| counts.fold_refusals.contains_key(number);
         assert!(forms::REFUSALS.iter().all(met), "of a form's end not all refusals: {:?}", counts.fold_refusals);
     }
-    for (what, refusals) in [
+    let lexing = [
         ("tokens and readers", counts.refusals),
-        ("values of integers", counts.value_refusals),
+        ("annotations", counts.annotation_refusals),
+        ("listings", counts.list_refusals),
         ("ends of forms", counts.fold_refusals),
-    ] {
-        let seen = refusals.iter().map(|(number, count)| format!("{number}: {count}"));
-        println!("refusals of {what} by number: {}", seen.collect::<Vec<_>>().join(", "));
+    ];
+    let bound = bindings::CALLS.map(|call| format!("the bindings' {call}"));
+    let bound = bound.iter().map(String::as_str).zip(counts.item_refusals);
+    for (what, refusals) in lexing.into_iter().chain(bound) {
+        told(what, &refusals);
+        let double = ours::c::DOUBLE_UNDERSCORE;
+        assert!(options.random < ENOUGH || refusals.contains_key(&double), "of {what} none is refused by {double}");
     }
+    told("values of integers", &counts.value_refusals);
     ExitCode::SUCCESS
 }

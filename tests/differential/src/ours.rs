@@ -10,11 +10,12 @@ pub fn version() -> u32 {
     unsafe { c::thallusweb_version() }
 }
 
-/// The bit of a settings word by which confusing characters are allowed.
+/// The bits of a settings word: confusing characters are allowed, and digits are strict.
 pub const ALLOW_CONFUSING: u32 = c::ALLOW_CONFUSING as u32;
+pub const STRICT_DIGITS: u32 = c::STRICT_DIGITS as u32;
 
-/// The bits of a settings word that are ignored. 2 is left out: it is kept for a setting to come.
-pub const IGNORED: u32 = 0xffff_fffc;
+/// The bits of a settings word that are ignored: all others.
+pub const IGNORED: u32 = !(ALLOW_CONFUSING | STRICT_DIGITS);
 
 /// A token as a call takes it: its kind, offset and length.
 pub type Words = [u64; c::TOKEN_WORDS as usize];
@@ -42,6 +43,12 @@ pub enum Found {
     Nothing,
     Token { kind: u64, offset: u64, len: u64 },
     Refused(Refused),
+}
+
+impl Found {
+    pub fn refused(self) -> Option<Refused> {
+        if let Found::Refused(refused) = self { Some(refused) } else { None }
+    }
 }
 
 /// Why a listing stops.

@@ -11,7 +11,7 @@ pub const LEVELS: usize = 64;
 pub enum Unfolded {
     /// 31: no LParen token stands at the position.
     NoForm,
-    /// 10 to 21, of a later token.
+    /// 10 to 21 or 25, of a later token.
     Fault(Fault),
     /// 41, at the opening of a level too many.
     TooDeep { place: usize },

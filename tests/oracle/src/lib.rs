@@ -2,7 +2,8 @@
 //!
 //! [`lexer`], [`parser`] and [`token`] are those of docs/src/src, unchanged; [`Error`] and [`annotation`] stand in for the
 //! rest of their crate. [`Oracle`] asks the lexer for one token, an annotation or a listing, for the end of a form, and for
-//! what its readers make of a token; [`integers`] asks the parser for an integer's value.
+//! what its readers make of a token; [`integers`] asks the parser for an integer's value. [`strict`] adds the setting that
+//! the original does not have.
 //!
 //! A position must stand between two characters of the text, or at its end: elsewhere the original panics, where
 //! rule 1 refuses by 3 and 4.
@@ -28,6 +29,7 @@ pub mod nests;
 pub mod numbers;
 pub mod places;
 pub mod readers;
+pub mod strict;
 pub mod texts;
 pub mod values;
 
@@ -99,7 +101,7 @@ impl std::fmt::Display for Error {
     }
 }
 
-/// An error of 10 to 24: its number, its data (0 where there is none) and its place.
+/// An error of 10 to 25: its number, its data (0 where there is none) and its place.
 #[derive(Clone, Copy, Debug, PartialEq, Eq)]
 pub struct Fault {
     pub number: u8,
@@ -130,16 +132,43 @@ pub enum Answer {
     Fault(Fault),
 }
 
-/// A text with the flag for confusing characters.
+/// The settings of lexing. The original has the first alone.
+#[derive(Clone, Copy, Debug, Default, PartialEq, Eq)]
+pub struct Settings {
+    pub allow_confusing: bool,
+    pub strict_digits: bool,
+}
+
+impl Settings {
+    /// All there are, in the order of their words.
+    pub const ALL: [Settings; 4] = [Settings::of(0), Settings::of(1), Settings::of(2), Settings::of(3)];
+
+    /// By the bits of a word (include/thallusweb.h).
+    pub const fn of(word: u8) -> Settings {
+        Settings { allow_confusing: word & 1 != 0, strict_digits: word & 2 != 0 }
+    }
+
+    pub fn word(self) -> u8 {
+        u8::from(self.allow_confusing) | u8::from(self.strict_digits) << 1
+    }
+}
+
+/// A text with the settings by which it is lexed.
 pub struct Oracle<'a> {
     lexer: Lexer<'a>,
+    strict_digits: bool,
 }
 
 impl<'a> Oracle<'a> {
+    /// With the original's flag, and without strict digits, as readers lex too.
     pub fn new(text: &'a str, allow_confusing: bool) -> Oracle<'a> {
+        Oracle::with_settings(text, Settings { allow_confusing, strict_digits: false })
+    }
+
+    pub fn with_settings(text: &'a str, settings: Settings) -> Oracle<'a> {
         let mut lexer = Lexer::new(text);
-        lexer.allow_confusing_unicode(allow_confusing);
-        Oracle { lexer }
+        lexer.allow_confusing_unicode(settings.allow_confusing);
+        Oracle { lexer, strict_digits: settings.strict_digits }
     }
 
     /// The text.
@@ -155,11 +184,24 @@ impl<'a> Oracle<'a> {
             Ok(Some(token)) => Answer::Token(Token(token)),
             Err(error) => Answer::Fault(error.into()),
         };
+        if self.strict_digits
+            && let Some(fault) = strict::refused(self.text(), position, after)
+        {
+            // the underscore is a byte
+            return (Answer::Fault(fault), fault.place + 1);
+        }
         (answer, after)
     }
 
     /// The annotation at a position, which may be any.
     pub fn annotation(&self, position: usize) -> Result<Option<Token>, Fault> {
+        // the original lexes where an `@` stands, and passes the error on
+        if self.strict_digits
+            && self.text().as_bytes().get(position) == Some(&b'@')
+            && let (Answer::Fault(fault), _) = self.parse(position)
+        {
+            return Err(fault);
+        }
         match self.lexer.annotation(position) {
             Ok(token) => Ok(token.map(Token)),
             Err(error) => Err(error.into()),

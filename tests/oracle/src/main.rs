@@ -27,16 +27,16 @@ oracle: what the Rust original says of texts, in the numbers of docs/RULES.md
       prints N different questions with their answers (default 1000, seed 1), one to a line. Bytes are in hexadecimal,
       - if there are none; texts have at most 40 bytes. WHAT is one of
       lex: what lexing says of what is left of a text from a position on; places are counted from there
-          FLAG TEXT end
-          FLAG TEXT token KIND LENGTH
-          FLAG TEXT fault NUMBER DATA DATA PLACE AFTER
-          FLAG is plain or lenient (confusing characters are allowed)
+          SETTINGS TEXT end
+          SETTINGS TEXT token KIND LENGTH
+          SETTINGS TEXT fault NUMBER DATA DATA PLACE AFTER
+          SETTINGS are plain, lenient (confusing characters are allowed), strict (digits) or both
       utf8: what std::str::from_utf8 says
           BYTES ok
           BYTES bad VALID-UP-TO ERROR-LENGTH
       kinds: the number of every kind, which the original shows as KIND; however large N is
           KIND is NUMBER
-      errors: the number of an error, which has this NAME in the original
+      errors: the number of an error, which has this NAME in the original; and of DoubleUnderscore
           NAME DATA DATA is NUMBER
       messages: the message of the error with that number and data, in a buffer of so many bytes (or 34, or 32)
           NUMBER DATA DATA ROOM none

@@ -44,8 +44,8 @@ const HARMLESS: &[&str] = &[
     " ;;😀)\n",
 ];
 
-/// What is an error, or one unless confusing characters are allowed, or one behind `(`; an open comment and an open
-/// string reach far.
+/// What is an error, or one unless confusing characters are allowed, or one where digits are strict, or one behind `(`; an
+/// open comment and an open string reach far.
 const TROUBLE: &[&str] = &[
     "(;",
     "(;(;)",
@@ -62,6 +62,8 @@ const TROUBLE: &[&str] = &[
     "\"\\u{100000000}\"",
     "\"\\u{d800}\"",
     "\"\\u{4_}\"",
+    "\"\\u{4__1}\"",
+    "$\"\\u{4__)}\"",
     "\"\u{202e}\"",
     "(;\u{2066};)",
     " ;;)\u{206c}\n",

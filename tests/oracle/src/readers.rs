@@ -6,7 +6,7 @@ use std::borrow::Cow;
 
 /// A token that the original gave.
 #[derive(Clone, Copy, Debug, PartialEq)]
-pub struct Token(pub(crate) lexer::Token);
+pub struct Token(pub lexer::Token);
 
 impl Token {
     /// The number of its kind, details included.

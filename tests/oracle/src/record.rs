@@ -4,7 +4,7 @@ use oracle::listing::Stop;
 use oracle::readers::Token;
 use oracle::texts::Texts;
 use oracle::values::{NO_READER, Value};
-use oracle::{Answer, Fault, Oracle, numbers, utf8};
+use oracle::{Answer, Fault, Oracle, Settings, numbers, utf8};
 use std::collections::BTreeMap;
 
 const ROW: usize = 152;
@@ -23,6 +23,7 @@ struct Recorded {
 }
 
 impl Recorded {
+    /// With its message, which is empty where a message is refused, as for 25.
     fn refused(number: u8, data: [u32; 2], place: usize) -> Recorded {
         let numbers = [2, number.into(), place, data[0] as usize, data[1] as usize, 0, 0];
         Recorded { numbers, message: numbers::message(number, data).unwrap_or_default(), lent: Vec::new() }
@@ -44,7 +45,7 @@ impl Recorded {
 
 struct Question<'a> {
     bytes: &'a [u8],
-    flag: bool,
+    settings: Settings,
     position: usize,
     budget: usize,
     room: usize,
@@ -85,7 +86,7 @@ impl Question<'_> {
         let (mut recorded, after) = match self.text() {
             Err(refused) => (refused, self.position),
             Ok(text) => {
-                let (answer, after) = Oracle::new(text, self.flag).parse(self.position);
+                let (answer, after) = Oracle::with_settings(text, self.settings).parse(self.position);
                 let recorded = match answer {
                     Answer::End => Recorded::default(),
                     Answer::Token(token) => Recorded::token(token.kind(), self.position, token.len()),
@@ -101,7 +102,7 @@ impl Question<'_> {
     fn annotation(&self) -> Recorded {
         match utf8(self.bytes) {
             Err(data) => Recorded::refused(2, data, data[0] as usize),
-            Ok(text) => match Oracle::new(text, self.flag).annotation(self.position) {
+            Ok(text) => match Oracle::with_settings(text, self.settings).annotation(self.position) {
                 Ok(None) => Recorded::default(),
                 Ok(Some(token)) => Recorded::token(token.kind(), self.position, token.len()),
                 Err(fault) => Recorded::fault(fault),
@@ -117,7 +118,8 @@ impl Question<'_> {
                 refused
             }
             Ok(text) => {
-                let listing = Oracle::new(text, self.flag).list(self.position, self.budget, &mut list[..self.room]);
+                let listing =
+                    Oracle::with_settings(text, self.settings).list(self.position, self.budget, &mut list[..self.room]);
                 let mut recorded = match listing.stop {
                     Stop::End => Recorded::default(),
                     Stop::Budget => Recorded { numbers: [1, 0, 0, 0, 0, 0, 0], ..Recorded::default() },
@@ -135,7 +137,7 @@ impl Question<'_> {
     }
 
     fn row(&self, kind: u8, answer: &Recorded) -> Vec<u8> {
-        let head = [kind, self.flag.into(), self.bytes.len() as u8, self.room as u8];
+        let head = [kind, self.settings.word(), self.bytes.len() as u8, self.room as u8];
         row(head, [self.position, self.budget], answer, self.bytes)
     }
 }
@@ -247,8 +249,18 @@ pub fn wanted(seen: &mut BTreeMap<[usize; 2], usize>, answer: [usize; 2], most: 
     *count <= most
 }
 
+/// One in twelve is a byte string, and one in twelve has a pair of underscores.
 fn any_text(chance: &mut Texts) -> Vec<u8> {
-    if chance.below(12) == 0 { chance.bytes(TEXT) } else { chance.text(TEXT).into_bytes() }
+    match chance.below(12) {
+        0 => chance.bytes(TEXT),
+        1 => loop {
+            let text = chance.text(TEXT);
+            if text.contains("__") {
+                return text.into_bytes();
+            }
+        },
+        _ => chance.text(TEXT).into_bytes(),
+    }
 }
 
 /// Rows for random texts and byte strings: five of seven are of lexing, the rest of readers. Then rows that must differ.
@@ -306,9 +318,9 @@ fn lexing_rows(rows: usize, chance: &mut Texts) -> Vec<u8> {
             1 => chance.boundary(&String::from_utf8_lossy(&text)),
             _ => 0,
         };
-        let flag = chance.below(3) == 0;
+        let settings = Settings { allow_confusing: chance.below(3) == 0, strict_digits: chance.below(2) == 0 };
         let question =
-            Question { bytes: &text, flag, position, budget: chance.below(12), room: chance.below(LENT + 1) };
+            Question { bytes: &text, settings, position, budget: chance.below(12), room: chance.below(LENT + 1) };
         let answer = question.parse();
         if !wanted(&mut seen, [answer.numbers[0], answer.numbers[1] & 0xff], rows / 40 + 1) {
             continue;
@@ -323,6 +335,8 @@ fn lexing_rows(rows: usize, chance: &mut Texts) -> Vec<u8> {
             out.extend(question.row(2, &question.annotation()));
         }
     }
+    // a text may have led to a row or two too many
+    out.truncate(rows * ROW);
     out
 }
 

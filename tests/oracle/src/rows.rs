@@ -4,9 +4,10 @@ use crate::record::wanted;
 use oracle::lexer::{LexError, Lexer};
 use oracle::listing::{RECORD, record};
 use oracle::places::Place;
+use oracle::strict::DOUBLE_UNDERSCORE;
 use oracle::texts::Texts;
 use oracle::values::{NO_READER, Value};
-use oracle::{Answer, Oracle, numbers, places, utf8};
+use oracle::{Answer, Oracle, Settings, numbers, places, utf8};
 use std::collections::{BTreeMap, HashSet};
 
 /// The longest text of a row.
@@ -51,10 +52,10 @@ fn different(rows: usize, seed: u64, row: fn(&mut Texts) -> (String, String)) ->
 fn lex(chance: &mut Texts) -> (String, String) {
     let text = chance.text(TEXT);
     let position = if chance.below(4) == 0 { chance.boundary(&text) } else { 0 };
-    let lenient = chance.below(3) == 0;
-    let flag = if lenient { "lenient" } else { "plain" };
-    let asked = format!("{flag} {}", hexadecimal(&text.as_bytes()[position..]));
-    let (answer, after) = Oracle::new(&text, lenient).parse(position);
+    let settings = Settings { allow_confusing: chance.below(3) == 0, strict_digits: chance.below(2) == 0 };
+    let named = ["plain", "lenient", "strict", "both"][usize::from(settings.word())];
+    let asked = format!("{named} {}", hexadecimal(&text.as_bytes()[position..]));
+    let (answer, after) = Oracle::with_settings(&text, settings).parse(position);
     let answer = match answer {
         Answer::End => "end".to_string(),
         Answer::Token(token) => format!("token {} {}", token.kind(), token.len()),
@@ -122,8 +123,11 @@ fn any_error(chance: &mut Texts) -> LexError {
     }
 }
 
-/// An error, asked for by its name in the original and its values.
+/// An error, asked for by its name in the original and its values; or the one that the original does not have.
 fn error(chance: &mut Texts) -> (String, String) {
+    if chance.below(15) == 0 {
+        return ("DoubleUnderscore 0 0".to_string(), format!("is {DOUBLE_UNDERSCORE}"));
+    }
     let error = any_error(chance);
     let told = format!("{error:?}");
     let name: String = told.chars().take_while(|c| c.is_alphanumeric()).collect();
@@ -135,7 +139,7 @@ fn error(chance: &mut Texts) -> (String, String) {
 fn message(chance: &mut Texts) -> (String, String) {
     let (number, data) = match chance.below(4) {
         0 => (chance.below(30) as u8, [chance.any_number(), chance.any_number()]),
-        1 => (10 + chance.below(15) as u8, [chance.any_char().into(), chance.any_char().into()]),
+        1 => (10 + chance.below(16) as u8, [chance.any_char().into(), chance.any_char().into()]),
         2 => numbers::of_error(&any_error(chance)),
         _ => loop {
             if let (Answer::Fault(fault), _) = Oracle::new(&chance.text(TEXT), false).parse(0) {

@@ -224,8 +224,8 @@ impl Texts {
     fn fragment(&mut self, text: &mut String) {
         match self.below(24) {
             0..=4 => self.number(text),
-            5..=10 => self.string(text),
-            11 => {
+            5..=9 => self.string(text),
+            10 | 11 => {
                 text.push(self.pick(&['$', '@']));
                 self.string(text);
             }
@@ -354,9 +354,11 @@ impl Texts {
             text.push(self.char_of(TELLING));
         }
         text.push_str(self.pick(&["", "", "", "0", "00"]));
+        // few underscores, or so many that pairs of them are common
+        let underscores = self.pick(&[12, 3]);
         for digit in self.pick(ESCAPED).chars() {
             text.push(if self.one_in(4) { digit.to_ascii_uppercase() } else { digit });
-            while self.one_in(12) {
+            while self.one_in(underscores) {
                 text.push('_');
             }
         }

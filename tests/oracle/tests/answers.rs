@@ -4,7 +4,7 @@ use Flag::{Either, Off, On};
 use Said::{End, Fault, Token};
 use oracle::numbers::{HEX, MINUS, PLUS, UNDERSCORES};
 use oracle::texts::Texts;
-use oracle::{Answer, Oracle, utf8};
+use oracle::{Answer, Oracle, Settings, utf8};
 use std::collections::BTreeSet;
 
 const LINE_COMMENT: u16 = 1;
@@ -476,6 +476,7 @@ fn twelve_kinds_of_integer() {
 fn random_texts_have_every_answer_and_no_other() {
     let mut kinds = BTreeSet::new();
     let mut errors = BTreeSet::new();
+    let mut strict = BTreeSet::new();
     let mut texts = Texts::new(1);
     for _ in 0..300_000 {
         let text = texts.text(40);
@@ -483,6 +484,10 @@ fn random_texts_have_every_answer_and_no_other() {
             Answer::End => {}
             Answer::Token(token) => _ = kinds.insert(token.kind()),
             Answer::Fault(fault) => _ = errors.insert(fault.number),
+        }
+        let settings = Settings { strict_digits: true, ..Settings::default() };
+        if let Answer::Fault(fault) = Oracle::with_settings(&text, settings).parse(0).0 {
+            strict.insert(fault.number);
         }
     }
     let mut all = BTreeSet::from_iter(LINE_COMMENT..=NORMAL);
@@ -493,4 +498,6 @@ fn random_texts_have_every_answer_and_no_other() {
     all.insert(NAN_VAL + UNDERSCORES);
     assert_eq!(kinds, all);
     assert_eq!(errors, BTreeSet::from_iter((10..=21).filter(|number| *number != 15)));
+    errors.insert(25);
+    assert_eq!(strict, errors);
 }

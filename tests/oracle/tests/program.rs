@@ -129,6 +129,23 @@ fn recorded_answers() {
     assert!(output.stdout == kept, "crates/replay/data/answers is what 'oracle record' writes");
 }
 
+/// One token, annotation and listing are recorded with every settings' word, and 25 for each, which has no message.
+#[test]
+fn recorded_settings() {
+    let kept = std::fs::read("../../crates/replay/data/answers").unwrap();
+    let mut settings = HashSet::new();
+    let mut doubles = [0; 4];
+    for row in kept.chunks_exact(152).filter(|row| (1..4).contains(&row[0])) {
+        settings.insert((row[0], row[1]));
+        if row[12..20] == [2, 0, 0, 0, 25, 0, 0, 0] {
+            assert!(row[1] & 2 != 0 && row[40] == 0, "{row:?}");
+            doubles[usize::from(row[0])] += 1;
+        }
+    }
+    assert_eq!(settings.len(), 3 * 4);
+    assert!(doubles[1..].iter().all(|count| *count > 10), "{doubles:?}");
+}
+
 #[test]
 fn usage() {
     for words in [
