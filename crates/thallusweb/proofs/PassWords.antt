@@ -1,6 +1,6 @@
 -- What passes can be read, for callers from C: what `passes-readable` says of tokens, said of the words that the records of
 -- a list decode to. Assumes nothing.
-use Prim.Native.Nat.{ℕ, _<_}
+use Prim.Native.Nat.{ℕ, _≤_, _<_}
 use mathlib.Core.Path.{_≡_, refl, sym, ap, _∙_, subst}
 use mathlib.Core.Logic.{_↔_}
 use mathlib.Core.List.{List, [], _∷_, _++_}
@@ -23,7 +23,7 @@ use Rattle.wat_values.specs.Values.{Reader, Takes, Value, Reads}
 use Rattle.wat_values.specs.Names.{Misnamed}
 use Rattle.wat_values.specs.Reading.{own, found, Second}
 use Rattle.wat_values.specs.Integers.{Worded}
-use Rattle.wat_values.specs.Readable.{bytesOf, filled, Yields, Readable, SignOf, HasSign, Signs, SignRead, WordRead, Passes}
+use Rattle.wat_values.specs.Readable.{bytesOf, filled, Readable, SignOf, HasSign, Signs, SignRead, WordRead, Passes}
 use Rattle.c_words.specs.Words.{refusedWords, stopWords, listedWords}
 use Rattle.c_read_words.specs.Words.{readingWords}
 use Rattle.c_spots.specs.Spots.{PartWords}
@@ -80,54 +80,64 @@ module _ (text w : List ℕ) {t : Token} (d : Denotes w t) where
   same-found : (v : Value) → readingWords (found (t .offset) v) ≡ foundIn w v
   same-found v = ap (λ (o : ℕ). readingWords (found o v)) (d .stands)
 
-  yields-words : {n : ℕ} {reader : Reader} {v : Value} {buffer : List ℕ} → nth readers n ≡ some reader
-      → Yields reader text t v buffer → YieldsWords n text w v buffer
-  yields-words {n} {reader} {v} {buffer} e y =
-      let f = filled v buffer in
-      let a : ReadWords n text w buffer (foundIn w v) f =
-      subst (λ (x : List ℕ). ReadWords n text w buffer x f) (same-found v) (ReadWords.read d (ReadBy.by e (y .answers))) in
-      let s = second-words (found (t .offset) v) (y .hands) in
-      let p : PartWords text f (foundIn w v) (s .0) = subst (λ (x : List ℕ). PartWords text f x (s .0)) (same-found v) (s .1) in
-      record {
-        answers = a;
-        only = λ x b z. read-words-one z a;
-        part = s .0;
-        parts = p;
-        only-part = λ q z. part-words-one z p;
-        bytes = s .2;
-      }
+  -- a call that answers the words `out` of a value, and no others
+  module _
+      {call : List ℕ → List ℕ → List ℕ → Type 0} (out : Value → List ℕ)
+      (one : (buffer a b c d : List ℕ) → call buffer a c → call buffer b d → (a ≡ b) × (c ≡ d))
+      {reader : Reader} (r : Readable reader text t)
+      (answers : (buffer : List ℕ) → t .len ≤ length buffer → call buffer (out (r .value)) (filled (r .value) buffer)) where
+    yields-words : {buffer : List ℕ} → t .len ≤ length buffer
+        → YieldsWords (call buffer) (out (r .value)) text w (r .value) buffer
+    yields-words {buffer} h =
+        let v = r .value in
+        let f = filled v buffer in
+        let s = second-words (found (t .offset) v) (r .there buffer h .hands) in
+        let p : PartWords text f (foundIn w v) (s .0) = subst (λ (x : List ℕ). PartWords text f x (s .0)) (same-found v) (s .1) in
+        record {
+          answers = answers buffer h;
+          only = λ x b z. one buffer x _ b _ z (answers buffer h);
+          part = s .0;
+          parts = p;
+          only-part = λ q z. part-words-one z p;
+          bytes = s .2;
+        }
 
-  readable-words : {n : ℕ} {reader : Reader} → nth readers n ≡ some reader → Readable reader text t
-      → ReadableWords n reader (t .kind) text w
-  readable-words {n} {reader} e r =
-      let v = r .value in
-      let o = d .stands in
-      record {
-        value = v;
-        reads = subst (λ (x : List ℕ). Reads reader (t .kind) x v) same-bytes (r .reads);
-        one = λ u x. r .one u (subst (λ (y : List ℕ). Reads reader (t .kind) y u) (sym same-bytes) x);
-        yields = λ buffer h. yields-words e (r .there buffer (omega (arith, d .long)));
-        refuses = (to, from);
-      }
-    where
-      Refuses : Type 0
-      Refuses = (e : LexError) × Misnamed reader (ownBytes text w) e
-          × (foundIn w (r .value) ≡ refusedWords (Lexical e) (getD w 1 0))
+    readable-words : ReadableWords call out reader (t .kind) text w
+    readable-words =
+        let v = r .value in
+        record {
+          value = v;
+          reads = subst (λ (x : List ℕ). Reads reader (t .kind) x v) same-bytes (r .reads);
+          one = λ u x. r .one u (subst (λ (y : List ℕ). Reads reader (t .kind) y u) (sym same-bytes) x);
+          yields = λ buffer h. yields-words (omega (arith, d .long));
+          refuses = (to, from);
+        }
+      where
+        Refuses : Type 0
+        Refuses = (e : LexError) × Misnamed reader (ownBytes text w) e
+            × (foundIn w (r .value) ≡ refusedWords (Lexical e) (getD w 1 0))
 
-      to : getD (foundIn w (r .value)) 0 0 ≡ 2 → Refuses
-      to q =
-          let x = refused-words (found (t .offset) (r .value)) (ap (λ (z : List ℕ). getD z 0 0) (same-found (r .value)) ∙ q) in
-          let m = r .refuses (x .0) (x .1) .0 (x .2) in
-          let a = m .1 in
-          let b = m .2 in
-          let c = d .stands in (
-            m .0,
-            subst (λ (z : List ℕ). Misnamed reader z (m .0)) same-bytes (m .3),
-            sym (same-found (r .value)) ∙ x .3 ∙ cc,
-          )
+        to : getD (foundIn w (r .value)) 0 0 ≡ 2 → Refuses
+        to q =
+            let x = refused-words (found (t .offset) (r .value)) (ap (λ (z : List ℕ). getD z 0 0) (same-found (r .value)) ∙ q) in
+            let m = r .refuses (x .0) (x .1) .0 (x .2) in
+            let a = m .1 in
+            let b = m .2 in
+            let c = d .stands in (
+              m .0,
+              subst (λ (z : List ℕ). Misnamed reader z (m .0)) same-bytes (m .3),
+              sym (same-found (r .value)) ∙ x .3 ∙ cc,
+            )
 
-      from : Refuses → getD (foundIn w (r .value)) 0 0 ≡ 2
-      from x = ap (λ (z : List ℕ). getD z 0 0) (x .2)
+        from : Refuses → getD (foundIn w (r .value)) 0 0 ≡ 2
+        from x = ap (λ (z : List ℕ). getD z 0 0) (x .2)
+
+  read-words : {n : ℕ} {reader : Reader} → nth readers n ≡ some reader → Readable reader text t
+      → ReadableWords (ReadWords n text w) (foundIn w) reader (t .kind) text w
+  read-words {n} e r =
+      readable-words (foundIn w) (λ buffer a b c d x y. read-words-one x y) r
+      (λ buffer h. subst (λ (x : List ℕ). ReadWords n text w buffer x (filled (r .value) buffer)) (same-found (r .value))
+      (ReadWords.read d (ReadBy.by e (r .there buffer h .answers))))
 
   signs-words : SignRead text t → SignReadWords (t .kind) text w
   signs-words r = record {
@@ -208,8 +218,9 @@ passes-words {σ} {text} {list} {l = l} (ListedWords.listed {r = r} x) e =
       readable = λ i h k n′ n reader o takes.
           let s = said i h in
           let z = said-kind s k n′ in
-          subst (λ (j : TokenKind). ReadableWords n reader j text (tokenWords l i)) z
-          (readable-words text (tokenWords l i) (said-denotes s) o
+          let w = tokenWords l i in
+          subst (λ (j : TokenKind). ReadableWords (ReadWords n text w) (foundIn w) reader j text w) z
+          (read-words text w (said-denotes s) o
           (p .readable (s .before) (s .after) (s .token) (s .parted) reader
           (subst (λ (j : TokenKind). Takes reader j) (sym z) takes)));
       signed = λ i h k n′ has.

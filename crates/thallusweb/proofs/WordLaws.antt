@@ -58,22 +58,26 @@ module _ {text w : List ℕ} {t : Token} where
   unnamed : {r : Refusal} {p : ℕ} → DenotesNone w → Empty (getD w 1 0) t → Nowhere text (t .offset) r p → Nameless text w r p
   unnamed {r} {p} x e y = record { none = x; at = subst (λ (o : ℕ). Nowhere text o r p) (e .stands) y }
 
+  -- a call's words are those of its answer where a token is named, and those of a refusal, of which Q is so, else
+  said-words : (Q : Refusal → ℕ → Type 0) (P : List ℕ → Type 0) (u : List ℕ) {v : List ℕ} → v ≡ u → Asks w t
+      → (Denotes w t → P u) → (t .len ≡ 0 → ((r : Refusal) (p : ℕ) → Nowhere text (t .offset) r p → Q r p) → P u)
+      → ((r : Refusal) (p : ℕ) → Nameless text w r p → Q r p) → P v
+  said-words Q P u z (Asks.one q) read none nameless = subst P (sym z) (read q)
+  said-words Q P u z (Asks.none x e) read none nameless = subst P (sym z) (none (e .long) (λ r p y. nameless r p (unnamed x e y)))
+
   pub read-words : {n : ℕ} {buffer b v : List ℕ} (a : Reading) → Asks w t → ReadBy n text t buffer a b → v ≡ readingWords a
       → ReadWords n text w buffer v b
-  read-words {n} {buffer} {b} a (Asks.one s) r z = subst (λ (x : List ℕ). ReadWords n text w buffer x b) (sym z) (ReadWords.read s r)
-  read-words {n} {buffer} {b} a (Asks.none x e) r z =
-      subst
-      (λ (u : List ℕ). ReadWords n text w buffer u b)
-      (sym z)
-      (read-nowhere (e .long) (λ (a : Reading) (b : List ℕ). ReadWords n text w buffer (readingWords a) b) r
-      (λ q p y. ReadWords.nameless (unnamed x e y)))
+  read-words {n} {buffer} {b} a k r z =
+      let P : List ℕ → List ℕ → Type 0 = ReadWords n text w buffer in
+      said-words (λ q p. P (refusedWords q p) buffer) (λ u. P u b) (readingWords a) z k (λ q. ReadWords.read q r)
+      (λ n f. read-nowhere n (λ (a : Reading) (c : List ℕ). P (readingWords a) c) r f)
+      (λ q p x. ReadWords.nameless x)
 
-  -- a call that takes no buffer: its words are those of its answer where a token is named, and those of a refusal else
+  -- a call that takes no buffer
   answer-words : (P : List ℕ → Type 0) (u : List ℕ) {v : List ℕ} → v ≡ u → Asks w t → (Denotes w t → P u)
       → (t .len ≡ 0 → ((r : Refusal) (p : ℕ) → Nowhere text (t .offset) r p → P (refusedWords r p)) → P u)
       → ((r : Refusal) (p : ℕ) → Nameless text w r p → P (refusedWords r p)) → P v
-  answer-words P u z (Asks.one q) read none nameless = subst P (sym z) (read q)
-  answer-words P u z (Asks.none x e) read none nameless = subst P (sym z) (none (e .long) (λ r p y. nameless r p (unnamed x e y)))
+  answer-words P u z k read none nameless = said-words (λ r p. P (refusedWords r p)) P u z k read none nameless
 
   pub integer-sign-words : {v : List ℕ} (s : IntegerSign) → Asks w t → ReadsSign text t s → v ≡ integerSignWords s
       → IntegerSignWords text w v

@@ -45,26 +45,29 @@ pub data PartBytes (text buffer : List ℕ) : List ℕ → List ℕ → Type 0 w
 abbrev pub foundIn : List ℕ → Value → List ℕ
 foundIn w v = readingWords (found (getD w 1 0) v)
 
--- the two calls yield the value v of the token whose words are w, by the reader with the number n
-pub record YieldsWords (n : ℕ) (text w : List ℕ) (v : Value) (buffer : List ℕ) : Type 0 where
+-- two calls yield the value v of the token whose words are w; the first leaves the words `out`
+pub record YieldsWords (call : List ℕ → List ℕ → Type 0) (out text w : List ℕ) (v : Value) (buffer : List ℕ) :
+    Type 0 where
   -- the first call answers where the value is, and copies it where it is a copy
-  pub answers : ReadWords n text w buffer (foundIn w v) (filled v buffer)
+  pub answers : call out (filled v buffer)
   -- it leaves no other words, and no other buffer
-  pub only : (a b : List ℕ) → ReadWords n text w buffer a b → (a ≡ foundIn w v) × (b ≡ filled v buffer)
-  -- the second call, given these words, leaves three words and no others, which name the value's bytes
+  pub only : (a b : List ℕ) → call a b → (a ≡ out) × (b ≡ filled v buffer)
+  -- the second call, given its first five words, leaves three words and no others, which name the value's bytes
   pub part : List ℕ
   pub parts : PartWords text (filled v buffer) (foundIn w v) part
   pub only-part : (p : List ℕ) → PartWords text (filled v buffer) (foundIn w v) p → p ≡ part
   pub bytes : PartBytes text (filled v buffer) part (bytesOf v)
 
--- the token of kind k whose words are w can be read by the reader with the number n
-pub record ReadableWords (n : ℕ) (reader : Reader) (k : TokenKind) (text w : List ℕ) : Type 0 where
+-- the token of kind k whose words are w can be read by a call that, lent a buffer, leaves the words `out` of a value
+pub record ReadableWords (call : List ℕ → List ℕ → List ℕ → Type 0) (out : Value → List ℕ) (reader : Reader)
+    (k : TokenKind) (text w : List ℕ) : Type 0 where
   -- the definitions give the token's own bytes a value, and no other
   pub value : Value
   pub reads : Reads reader k (ownBytes text w) value
   pub one : (v : Value) → Reads reader k (ownBytes text w) v → v ≡ value
   -- with each buffer that is no shorter than the token, the calls yield it
-  pub yields : (buffer : List ℕ) → getD w 2 0 ≤ length buffer → YieldsWords n text w value buffer
+  pub yields : (buffer : List ℕ) → getD w 2 0 ≤ length buffer
+      → YieldsWords (call buffer) (out value) text w value buffer
   -- the answer's first word is 2, a refusal, exactly where the name is empty (23, 24) or not UTF-8 (22), and then the
   -- words are those of that error at the token's offset
   pub refuses : (getD (foundIn w value) 0 0 ≡ 2)
@@ -115,7 +118,8 @@ pub record PassesWords (σ : Settings) (text out l : List ℕ) : Type 0 where
   pub kinds : (i : ℕ) → i < getD out 5 0 → (k : TokenKind) × (kindNumber k ≡ kindAt l i)
   -- each token can be read by each reader that takes its kind
   pub readable : (i : ℕ) → i < getD out 5 0 → (k : TokenKind) → kindNumber k ≡ kindAt l i → (n : ℕ) (reader : Reader)
-      → nth readers n ≡ some reader → Takes reader k → ReadableWords n reader k text (tokenWords l i)
+      → nth readers n ≡ some reader → Takes reader k
+      → ReadableWords (ReadWords n text (tokenWords l i)) (foundIn (tokenWords l i)) reader k text (tokenWords l i)
   -- and of each that has a sign the sign is read
   pub signed : (i : ℕ) → i < getD out 5 0 → (k : TokenKind) → kindNumber k ≡ kindAt l i → HasSign k
       → SignReadWords k text (tokenWords l i)
