@@ -1,18 +1,22 @@
 -- The answers of the readers and of the messages as words, for C: the layout that include/thallusweb.h explains.
 use Prim.Native.Nat.{ℕ}
-use mathlib.Core.List.{List, [], _∷_}
+use mathlib.Core.List.{List, [], _∷_, _++_}
 use Rattle.wat.specs.declared.{Sign.Sign}
-use Rattle.wat_values.specs.declared.{Reading.Reading, IntegerSign.IntegerSign, FloatSign.FloatSign}
+use Rattle.wat_values.specs.declared.{Reading.Reading, NameKind.NameKind, NameReading.NameReading}
+use Rattle.wat_values.specs.declared.{IntegerSign.IntegerSign, FloatSign.FloatSign}
 use Rattle.wat_values.specs.declared.IntegerValue.{IntegerValue}
 use Rattle.messages.specs.declared.Told.{Told}
 use Rattle.wat.specs.declared.Sign.the-variants.{Unsigned, Plus, Minus}
+use Rattle.wat.specs.declared.TokenKind.the-variants as kind
 use Rattle.wat_values.specs.declared.Reading.the-variants as reading
+use Rattle.wat_values.specs.declared.NameKind.the-variants as name-of
+use Rattle.wat_values.specs.declared.NameReading.the-variants as name
 use Rattle.wat_values.specs.declared.IntegerSign.the-variants as integer
 use Rattle.wat_values.specs.declared.IntegerValue.the-variants as value
 use Rattle.wat_values.specs.declared.FloatSign.the-variants as float
 use Rattle.messages.specs.declared.Told.the-variants as message
-use Rattle.wat.specs.Cases.{flag}
-use Rattle.wat_values.specs.Reading.{noPlace}
+use Rattle.wat.specs.Cases.{flag, kindNumber}
+use Rattle.wat_values.specs.Reading.{noPlace, readingOf}
 use Rattle.wat_values.specs.Integers.{outOfRange}
 use Rattle.c_words.specs.Words.{refusedWords}
 
@@ -22,6 +26,21 @@ readingWords reading.Absent = 0 ∷ 0 ∷ 0 ∷ 0 ∷ 0 ∷ []
 readingWords (reading.Text start len) = 1 ∷ start ∷ len ∷ 0 ∷ 0 ∷ []
 readingWords (reading.Refused r p) = refusedWords r p
 readingWords (reading.Buffer start len) = 3 ∷ start ∷ len ∷ 0 ∷ 0 ∷ []
+
+-- the number of the kind of token that a name is of
+abbrev pub kindWord : NameKind → ℕ
+kindWord name-of.Id = kindNumber kind.Id
+kindWord name-of.Annotation = kindNumber kind.Annotation
+
+-- the same of an answer; 0 where it has no name
+abbrev pub nameWord : NameReading → ℕ
+nameWord (name.Refused r p) = 0
+nameWord (name.Text n start len) = kindWord n
+nameWord (name.Buffer n start len) = kindWord n
+
+-- what the name call answers of a token: the words of another reader's answer, and whose name it is
+abbrev pub nameWords : NameReading → List ℕ
+nameWords a = readingWords (readingOf a) ++ (nameWord a ∷ [])
 
 abbrev pub signWord : Sign → ℕ
 signWord Unsigned = 0

@@ -1,12 +1,14 @@
 // The answers of the readers and of the messages as words, for C. include/thallusweb.h explains each word.
 ghost use mathlib.Core.Path.{_≡_};
-ghost use Rattle.c_read_words.specs.Words.{readingWords, integerSignWords, integerWords, floatSignWords};
-ghost use Rattle.c_read_words.specs.Words.{messageWords};
+ghost use Rattle.c_read_words.specs.Words.{readingWords, nameWords, nameWord, kindWord};
+ghost use Rattle.c_read_words.specs.Words.{integerSignWords, integerWords, floatSignWords, messageWords};
 use messages::Told;
 use wat::Sign;
 use wat_values::FloatSign;
 use wat_values::IntegerSign;
 use wat_values::IntegerValue;
+use wat_values::NameKind;
+use wat_values::NameReading;
 use wat_values::Reading;
 
 // What a reader found of a token.
@@ -18,6 +20,45 @@ pub fn reading_words(r: Reading) -> [u64; 5]
         Reading::Text { start, len } => [1, start as u64, len as u64, 0, 0],
         Reading::Refused { refusal, place } => c_words::refused_words(refusal, place),
         Reading::Buffer { start, len } => [3, start as u64, len as u64, 0, 0],
+    }
+}
+
+// What the reader of names found: the words of another reader's answer, and whose name it is.
+pub fn name_words(n: NameReading) -> [u64; 6]
+    ensures { λ w. ⌜ w ≡ nameWords n ⌝ }
+{
+    let w = reading_words(read_second::reading_of(n));
+    [w[0], w[1], w[2], w[3], w[4], name_word(n)]
+}
+
+// The number of the kind of token that a name is of; 0 where none is answered.
+fn name_word(n: NameReading) -> u64
+    ensures { λ w. ⌜ w ≡ nameWord n ⌝ }
+{
+    match n {
+        NameReading::Text {
+            kind,
+            start: _,
+            len: _,
+        } => kind_word(kind),
+        NameReading::Buffer {
+            kind,
+            start: _,
+            len: _,
+        } => kind_word(kind),
+        NameReading::Refused {
+            refusal: _,
+            place: _,
+        } => 0,
+    }
+}
+
+fn kind_word(kind: NameKind) -> u64
+    ensures { λ w. ⌜ w ≡ kindWord kind ⌝ }
+{
+    match kind {
+        NameKind::Id => 7,
+        NameKind::Annotation => 9,
     }
 }
 

@@ -13,7 +13,7 @@ use Rattle.wat_forms.specs.Forms.{tooDeep, unclosed}
 
 -- the number of the words and constants of include/thallusweb.h: a header and a library of one number belong together
 abbrev pub wordsVersion : ℕ
-wordsVersion = 5
+wordsVersion = 6
 
 -- 0, or 2 and its two numbers
 abbrev pub checkedWords : Checked → List ℕ

@@ -11,7 +11,7 @@ use wat::Stop;
 use wat_forms::Folded;
 
 // The number of the words and constants of include/thallusweb.h, there THALLUSWEB_VERSION. It rises when one changes.
-pub const VERSION: u32 = 5;
+pub const VERSION: u32 = 6;
 
 pub fn version() -> u32
     ensures { λ r. ⌜ r ≡ wordsVersion ⌝ }

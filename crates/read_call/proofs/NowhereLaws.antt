@@ -4,16 +4,17 @@ use mathlib.Core.Path.{_≡_, ap}
 use mathlib.Core.List.{List}
 use lib.ListN.{take, drop}
 use Rattle.wat.specs.declared.{Token.Token, Refusal.Refusal}
-use Rattle.wat_values.specs.declared.{Reading.Reading, IntegerSign.IntegerSign, FloatSign.FloatSign}
-use Rattle.wat_values.specs.declared.IntegerValue.{IntegerValue}
+use Rattle.wat_values.specs.declared.{Reading.Reading, NameReading.NameReading, IntegerSign.IntegerSign}
+use Rattle.wat_values.specs.declared.{FloatSign.FloatSign, IntegerValue.IntegerValue}
 use Rattle.wat.specs.declared.Answer.the-variants as answer
 use Rattle.wat_values.specs.declared.Reading.the-variants as reading
+use Rattle.wat_values.specs.declared.NameReading.the-variants as name
 use Rattle.wat_values.specs.declared.IntegerSign.the-variants as integer
 use Rattle.wat_values.specs.declared.FloatSign.the-variants as float
 use Rattle.wat_values.specs.declared.IntegerValue.the-variants as value
 use Rattle.wat.specs.Settings.{lenient}
 use Rattle.wat.specs.Lexing.{Lexed}
-use Rattle.wat_values.specs.Reading.{There, Missing, Read, ReadsSign, ReadsNegative}
+use Rattle.wat_values.specs.Reading.{There, Missing, Read, ReadsName, ReadsSign, ReadsNegative}
 use Rattle.wat_values.specs.Integers.{ReadsWord}
 use Rattle.wat.proofs.Unique.{tok-some}
 use Rattle.read_call.specs.ByNumber.{ReadBy, Nowhere}
@@ -38,6 +39,14 @@ module _ {text : List ℕ} {token : Token} (none : token .len ≡ 0) where
   read-nowhere P (ReadBy.by e (Read.reads t r h)) f = absurd (not-there t)
   read-nowhere P (ReadBy.missing e x) f = f _ _ (nowhere x)
   read-nowhere P (ReadBy.nobody e t) f = absurd (not-there t)
+
+  pub name-nowhere : {buffer b : List ℕ} {a : NameReading} (P : NameReading → List ℕ → Type 0) → ReadsName text token buffer a b
+      → ((r : Refusal) (p : ℕ) → Nowhere text (token .offset) r p → P (name.Refused r p) buffer) → P a b
+  name-nowhere P (ReadsName.no-name (Read.missing x)) f = f _ _ (nowhere x)
+  name-nowhere P (ReadsName.no-name (Read.other-kind t n)) f = absurd (not-there t)
+  name-nowhere P (ReadsName.no-name (Read.reads t r h)) f = absurd (not-there t)
+  name-nowhere P (ReadsName.in-text s (Read.reads t r h)) f = absurd (not-there t)
+  name-nowhere P (ReadsName.in-buffer s (Read.reads t r h)) f = absurd (not-there t)
 
   pub sign-nowhere : {s : IntegerSign} (P : IntegerSign → Type 0) → ReadsSign text token s
       → ((r : Refusal) (p : ℕ) → Nowhere text (token .offset) r p → P (integer.Refused r p)) → P s

@@ -1,10 +1,9 @@
 -- From the readers' answers to those of the reader with a number. Assumes nothing.
-use Prim.Native.Nat.{ℕ, zero, suc, _≤_}
+use Prim.Native.Nat.{ℕ, zero, suc, _+_}
 use mathlib.Core.Path.{_≡_, refl, ap, _∙_, subst}
 use mathlib.Core.List.{List, [], _∷_}
-use mathlib.Core.Option.{none, some}
+use mathlib.Core.Option.{Option, none, some}
 use native.Mathlib.Omega.{arith}
-use lib.ListN.{length}
 use Rattle.wat.specs.declared.{Token.Token, Refusal.Refusal}
 use Rattle.wat_values.specs.declared.Reading.{Reading}
 use Rattle.wat.specs.declared.Refusal.the-variants.{NotThatKind}
@@ -28,24 +27,30 @@ pub by-number : {n : ℕ} {text buffer b : List ℕ} {token : Token} {reader : R
     → nth readers m ≡ some reader → Read reader text token buffer a b → ReadBy n text token buffer a b
 by-number m e q r = ReadBy.by (ap (nth readers) e ∙ q) r
 
--- n is none of the first m numbers
-abbrev Apart : ℕ → ℕ → Type 0
-Apart zero n = Unit {0}
-Apart (suc m) n = Apart m n × (n ≡ m → ⊥)
+-- P, and n is none of the numbers, from m on, that these readers have
+abbrev Apart : List (Option Reader) → ℕ → ℕ → Type 0 → Type 0
+Apart [] m n P = P
+Apart (none ∷ rs) m n P = Apart rs (suc m) n P
+Apart (some r ∷ rs) m n P = Apart rs (suc m) n (P × (n ≡ m → ⊥))
 
-apart : (m n : ℕ) → Apart m n → m ≤ n
-apart zero n a = omega arith
-apart (suc m) n a = let h = apart m n (a .0) in let d = a .1 in omega arith
+before : (rs : List (Option Reader)) (m n : ℕ) (P : Type 0) → Apart rs m n P → P
+before [] m n P a = a
+before (none ∷ rs) m n P a = before rs (suc m) n P a
+before (some r ∷ rs) m n P a = before rs (suc m) n (P × (n ≡ m → ⊥)) a .0
 
-nth-none : (rs : List Reader) (n : ℕ) → length rs ≤ n → nth rs n ≡ none
-nth-none [] n h = refl
-nth-none (r ∷ rs) zero h = absurd (omega arith)
-nth-none (r ∷ rs) (suc n) h = nth-none rs n (omega arith)
+nth-none : (rs : List (Option Reader)) (m n k : ℕ) (P : Type 0) → n ≡ m + k → Apart rs m n P → nth rs k ≡ none
+nth-none [] m n k P e a = refl
+nth-none (none ∷ rs) m n zero P e a = refl
+nth-none (none ∷ rs) m n (suc k) P e a = nth-none rs (suc m) n k P (omega arith) a
+nth-none (some r ∷ rs) m n zero P e a = absurd (before rs (suc m) n (P × (n ≡ m → ⊥)) a .1 (omega arith))
+nth-none (some r ∷ rs) m n (suc k) P e a = nth-none rs (suc m) n k (P × (n ≡ m → ⊥)) (omega arith) a
 
-nobody : (n : ℕ) → Apart 9 n → nth readers n ≡ none
-nobody n a = nth-none readers n (apart 9 n a)
+nobody : (n : ℕ) → Apart readers 0 n (Unit {0}) → nth readers n ≡ none
+nobody n a = nth-none readers 0 n n (Unit {0}) (omega arith) a
 
-module _ {n : ℕ} {text buffer : List ℕ} {token : Token} {m : TokenCheck} (a : Apart 9 n) (h : Here text token m) where
+module _
+    {n : ℕ} {text buffer : List ℕ} {token : Token} {m : TokenCheck} (a : Apart readers 0 n (Unit {0}))
+    (h : Here text token m) where
   pub by-nobody : m ≡ presence.There → ReadBy n text token buffer (reading.Refused NotThatKind noPlace) buffer
   by-nobody e = ReadBy.nobody (nobody n a) (subst (Here text token) e h)
 

@@ -12,15 +12,16 @@ use Rattle.wat.specs.Calls.{Stands, Rejected}
 use Rattle.wat_values.specs.Values.{Reader}
 use Rattle.wat_values.specs.Reading.{There, noPlace, Missing, Read}
 
--- the readers by their numbers
-abbrev pub readers : List Reader
+-- the readers by their numbers; 2 and 3 are nobody's, since names have a call of their own
+abbrev pub readers : List (Option Reader)
 readers =
-    Reader.src ∷ Reader.string ∷ Reader.id ∷ Reader.annotation ∷ Reader.digits
-    ∷ Reader.float the.Integral ∷ Reader.float the.Fraction ∷ Reader.float the.Exponent ∷ Reader.float the.Payload ∷ []
+    some Reader.src ∷ some Reader.string ∷ none ∷ none ∷ some Reader.digits
+    ∷ some (Reader.float the.Integral) ∷ some (Reader.float the.Fraction)
+    ∷ some (Reader.float the.Exponent) ∷ some (Reader.float the.Payload) ∷ []
 
-abbrev pub nth : List Reader → ℕ → Option Reader
+abbrev pub nth : List (Option Reader) → ℕ → Option Reader
 nth [] n = none
-nth (r ∷ rs) zero = some r
+nth (r ∷ rs) zero = r
 nth (r ∷ rs) (suc n) = nth rs n
 
 -- the first call of the reader with the number; a number that no reader has is refused by 31, after 1 to 4 and 30

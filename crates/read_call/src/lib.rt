@@ -1,4 +1,5 @@
-// The readers by their numbers.
+// The readers by their numbers. 2 and 3 were those of ids and annotations, which `read_text::name` reads now; no other
+// reader gets them.
 ghost use Rattle.read_call.specs.ByNumber.{ReadBy};
 use read_token::TokenCheck;
 use wat::Refusal;
@@ -14,8 +15,6 @@ pub fn read(text: &[u8], reader: u64, token: Token, buffer: &mut [u8]) -> Readin
     match reader {
         0 => read_text::src(text, token),
         1 => read_text::string(text, token, buffer),
-        2 => read_text::id(text, token, buffer),
-        3 => read_text::annotation(text, token, buffer),
         4 => read_integer::integer(text, token, buffer),
         5 => read_float::part(text, token, FloatPart::Integral, buffer),
         6 => read_float::part(text, token, FloatPart::Fraction, buffer),

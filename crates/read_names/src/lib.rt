@@ -1,12 +1,16 @@
 // The values of strings and of names, at places where one stands: a part of the text, or a copy.
 
+ghost use mathlib.Core.Path.{_≡_};
 ghost use lib.ListN.{take, drop};
 ghost use Rattle.lex_classes.specs.Table.{Classes};
-ghost use Rattle.read_names.specs.Names.{Quoted, Quotes, tail, Sigiled, NameRead};
+ghost use Rattle.wat_values.specs.Values.{emptyName};
+ghost use Rattle.read_names.specs.Names.{Quoted, Quotes, tail, Sigiled, NameHanded};
 use wat::Checked;
 use wat::LexError;
 use wat::Refusal;
 use wat_values::NO_PLACE;
+use wat_values::NameKind;
+use wat_values::NameReading;
 use wat_values::Reading;
 
 // The string of `len` bytes at a place: what stands between its quotes, or a copy if it has an escape. The copy is
@@ -33,31 +37,42 @@ pub fn quoted(text: &[u8], at: usize, len: usize, buffer: &mut [u8], t: &[u8; 25
     Reading::Buffer { start: 0, len: n }
 }
 
-// A name after the first byte of its token: a word or a string; `empty` is the error of a name that is empty. Only a
-// decoded copy can fail to be UTF-8 (22); only a name that is not copied can be empty (23, 24).
+// The error of a name that is empty.
+fn empty_name(kind: NameKind) -> LexError
+    ensures { λ r. ⌜ r ≡ emptyName kind ⌝ }
+{
+    match kind {
+        NameKind::Id => LexError::EmptyId,
+        NameKind::Annotation => LexError::EmptyAnnotation,
+    }
+}
+
+// The name of a token of the kind, after its first byte: a word or a string. Only a decoded copy can fail to be UTF-8
+// (22); only a name that is not copied can be empty (23, 24).
 pub fn name(
     text: &[u8],
     offset: usize,
     len: usize,
-    empty: LexError,
+    kind: NameKind,
     buffer: &mut [u8],
     t: &[u8; 256],
-) -> Reading
-    requires { ⌜ Sigiled empty (now text) offset len ⌝ }
+) -> NameReading
+    requires { ⌜ Sigiled kind (now text) offset len ⌝ }
     requires { ⌜ Classes (now t) ⌝ }
-    ensures { λ r. ⌜ NameRead empty (tail (now (text .entry)) offset len) offset (now (buffer .entry)) r
+    ensures { λ r. ⌜ NameHanded kind (tail (now (text .entry)) offset len) offset (now (buffer .entry)) r
         (now (buffer .exit)) ⌝ }
 {
     let at = offset + 1;
     let rest = len - 1;
     if rest == 0 {
-        return Reading::Refused {
-            refusal: Refusal::Lexical(empty),
+        return NameReading::Refused {
+            refusal: Refusal::Lexical(empty_name(kind)),
             place: offset,
         };
     }
     if text[at] != b'"' {
-        return Reading::Text {
+        return NameReading::Text {
+            kind,
             start: at,
             len: rest,
         };
@@ -65,21 +80,29 @@ pub fn name(
     match quoted(text, at, rest, buffer, t) {
         Reading::Text { start, len: n } => {
             if n == 0 {
-                return Reading::Refused {
-                    refusal: Refusal::Lexical(empty),
+                return NameReading::Refused {
+                    refusal: Refusal::Lexical(empty_name(kind)),
                     place: offset,
                 };
             }
-            Reading::Text { start, len: n }
+            NameReading::Text {
+                kind,
+                start,
+                len: n,
+            }
         }
         Reading::Buffer { start: _, len: n } => {
             let copy = &buffer[0..n];
             match utf8_check::check(copy) {
-                Checked::Ok => Reading::Buffer { start: 0, len: n },
+                Checked::Ok => NameReading::Buffer {
+                    kind,
+                    start: 0,
+                    len: n,
+                },
                 Checked::Bad {
                     valid_up_to,
                     error_len,
-                } => Reading::Refused {
+                } => NameReading::Refused {
                     refusal: Refusal::Lexical(LexError::InvalidUtf8Id {
                         valid_up_to,
                         error_len,
@@ -88,7 +111,10 @@ pub fn name(
                 },
             }
         }
-        Reading::Refused { refusal, place } => Reading::Refused { refusal, place },
-        Reading::Absent => Reading::Absent,
+        // A string is never absent, and refused by 32 alone.
+        _ => NameReading::Refused {
+            refusal: Refusal::BufferTooShort,
+            place: NO_PLACE,
+        },
     }
 }

@@ -1,7 +1,9 @@
 // The second call of the readers: the part that a first call named.
 
-ghost use Rattle.wat_values.specs.Reading.{Second};
+ghost use mathlib.Core.Path.{_≡_};
+ghost use Rattle.wat_values.specs.Reading.{Second, readingOf};
 ghost use Rattle.read_second.specs.Parts.{PartOf, PartFor};
+use wat_values::NameReading;
 use wat_values::Reading;
 
 // Returns the part of the text or of the buffer that a first call named, as a reference into it. It takes any answer,
@@ -18,6 +20,25 @@ pub fn part<'a>(text: &'a [u8], buffer: &'a [u8], reading: Reading) -> &'a [u8]
             place: _,
         } => &text[0..0],
         Reading::Absent => &text[0..0],
+    }
+}
+
+// A name's answer as that of another reader, so that `part` takes it: without whose name it is.
+pub fn reading_of(named: NameReading) -> Reading
+    ensures { λ r. ⌜ r ≡ readingOf named ⌝ }
+{
+    match named {
+        NameReading::Refused { refusal, place } => Reading::Refused { refusal, place },
+        NameReading::Text {
+            kind: _,
+            start,
+            len,
+        } => Reading::Text { start, len },
+        NameReading::Buffer {
+            kind: _,
+            start,
+            len,
+        } => Reading::Buffer { start, len },
     }
 }
 

@@ -9,24 +9,25 @@ use lib.Seq.{drop-drop}
 use Rattle.wat.specs.declared.TokenKind.{TokenKind}
 use Rattle.wat.specs.declared.TokenKind.the-variants as kind
 use Rattle.wat.specs.declared.Token.{Token}
-use Rattle.wat.specs.declared.LexError.{LexError}
-use Rattle.wat.specs.declared.LexError.the-variants.{EmptyId, EmptyAnnotation}
 use Rattle.wat.specs.declared.Refusal.{Refusal}
 use Rattle.wat.specs.declared.Refusal.the-variants.{NotThatKind}
-use Rattle.wat_values.specs.declared.Reading.{Reading}
+use Rattle.wat_values.specs.declared.{Reading.Reading, NameKind.NameKind, NameReading.NameReading}
 use Rattle.wat_values.specs.declared.Reading.the-variants as reading
-use Rattle.wat.specs.Bytes.{byte}
+use Rattle.wat_values.specs.declared.NameReading.the-variants as named
 use Rattle.wat.specs.Settings.{lenient}
 use Rattle.wat.specs.Strings.{Str}
-use Rattle.wat_values.specs.Values.{Reader, Takes, Value, Name, Reads}
-use Rattle.wat_values.specs.Reading.{There, noPlace, own, Read}
+use Rattle.wat_values.specs.Values.{Reader, Sigil, Takes, Value, Name, Reads}
+use Rattle.wat_values.specs.Reading.{There, noPlace, own, Read, ReadsName}
 use Rattle.wat.proofs.Basics.{differ}
+use Rattle.wat_values.proofs.OneValue.{sigil-one}
 use Rattle.wat_values.proofs.SomeValue as one
-use Rattle.wat_values.proofs.ReadingLaws.{is-token, token-long}
+use Rattle.wat_values.proofs.ReadingLaws.{is-token, token-long, named-reads}
 use Rattle.read_token.specs.declared.TokenCheck.{TokenCheck}
 use Rattle.read_token.specs.declared.TokenCheck.the-variants as presence
-use Rattle.read_token.specs.Here.{Taken}
-use Rattle.read_names.specs.Names.{Quoted, Quotes, tail, Sigiled, NameRead}
+use Rattle.read_token.specs.declared.NameCheck.{NameCheck}
+use Rattle.read_token.specs.declared.NameCheck.the-variants as name
+use Rattle.read_token.specs.Here.{Taken, HereName}
+use Rattle.read_names.specs.Names.{Quoted, Quotes, tail, Sigiled, NameHanded}
 use Rattle.read_names.proofs.HandLaws.{handed-part, handed-left, handed-short, handed-copy}
 use Rattle.read_token.proofs.PresentLaws.{there-fits, there-reads}
 
@@ -57,16 +58,13 @@ module _ {text : List ℕ} {token : Token} {k : TokenKind} where
 pub only-string : (j : TokenKind) → Takes Reader.string j → j ≡ kind.String
 only-string j Takes.a-string = refl
 
-module _ {text : List ℕ} {token : Token} (k : TokenKind) (t : There text token × (token .kind ≡ k)) where
-  -- the token has a value for the reader
-  value : {reader : Reader} → Takes reader k → (v : Value) × Reads reader k (own text token) v
-  value h = one.reads (rw (t .1) at (is-token (t .0 .lexed))) h
-
 -- ---- strings
 
 module _ {text : List ℕ} {token : Token} (t : There text token × (token .kind ≡ kind.String)) where
   pub string-quoted : Quoted text (token .offset) (token .len)
-  string-quoted = let s = go (value kind.String t Takes.a-string .1) in record { fits = there-fits (t .0); value = s .0; is = s .1 }
+  string-quoted =
+      let s = go (one.reads (rw (t .1) at (is-token (t .0 .lexed))) Takes.a-string .1) in
+      record { fits = there-fits (t .0); value = s .0; is = s .1 }
     where
       go : {w : List ℕ} {v : Value} → Reads Reader.string kind.String w v → (u : List ℕ) × Str lenient w u
       go (Reads.a-string p) = (_, p)
@@ -92,48 +90,47 @@ tail-is text token {x} {w} e =
     go (suc n) [] q e = differ (cc)
     go (suc n) (y ∷ t) q e = let m : suc n - 1 ≡ n = omega arith in rw m (cc)
 
--- a reader of names takes one kind, whose tokens are the byte x and a name
-pub record Naming (reader : Reader) (k : TokenKind) (x : ℕ) (e : LexError) : Type 0 where
-  pub takes : Takes reader k
-  pub only : (j : TokenKind) → Takes reader j → j ≡ k
-  pub reads : {w : List ℕ} {v : Value} → Name e w v → Reads reader k (x ∷ w) v
-  pub named : {w : List ℕ} {v : Value} → Reads reader k w v → (t : List ℕ) × (w ≡ x ∷ t) × Name e t v
+module _ {text : List ℕ} {token : Token} where
+  pub name-there : {m : NameCheck} {n : NameKind} → HereName text token m → m ≡ name.Named n
+      → There text token × (x : ℕ) × Sigil n (token .kind) x
+  name-there (HereName.missing b) e = differ (cc)
+  name-there (HereName.no-name t h) e = differ (cc)
+  name-there {n = n} (HereName.named {n = o} {x = x} t s) e =
+      let z : o ≡ n = cc in (t, x, subst (λ (i : NameKind). Sigil i (token .kind) x) z s)
 
-pub id-naming : Naming Reader.id kind.Id (byte "$") EmptyId
-id-naming = record { takes = Takes.an-id; only = only; reads = λ n. Reads.an-id n; named = named }
-  where
-    only : (j : TokenKind) → Takes Reader.id j → j ≡ kind.Id
-    only j Takes.an-id = refl
+  pub name-refused : {m : NameCheck} {r : Refusal} {p : ℕ} (buffer : List ℕ) → HereName text token m → m ≡ name.Refused r p
+      → ReadsName text token buffer (named.Refused r p) buffer
+  name-refused {r = r} {p = p} buffer (HereName.missing {r = x} {p = y} b) e =
+      let z : named.Refused x y ≡ named.Refused r p = cc in
+      rw (← z) (ReadsName.no-name (Read.missing b))
+  name-refused {r = r} {p = p} buffer (HereName.no-name t h) e =
+      let z : named.Refused NotThatKind noPlace ≡ named.Refused r p = cc in
+      rw (← z) (ReadsName.no-name (Read.other-kind t h))
+  name-refused buffer (HereName.named t s) e = differ (cc)
 
-    named : {w : List ℕ} {v : Value} → Reads Reader.id kind.Id w v → (t : List ℕ) × (w ≡ byte "$" ∷ t) × Name EmptyId t v
-    named (Reads.an-id n) = (_, refl, n)
-
-pub annotation-naming : Naming Reader.annotation kind.Annotation (byte "@") EmptyAnnotation
-annotation-naming = record { takes = Takes.an-annotation; only = only; reads = λ n. Reads.an-annotation n; named = named }
-  where
-    only : (j : TokenKind) → Takes Reader.annotation j → j ≡ kind.Annotation
-    only j Takes.an-annotation = refl
-
-    named : {w : List ℕ} {v : Value} → Reads Reader.annotation kind.Annotation w v
-        → (t : List ℕ) × (w ≡ byte "@" ∷ t) × Name EmptyAnnotation t v
-    named (Reads.an-annotation n) = (_, refl, n)
-
-module _
-    {reader : Reader} {k : TokenKind} {x : ℕ} {e : LexError} (g : Naming reader k x e)
-    {text : List ℕ} {token : Token} (t : There text token × (token .kind ≡ k)) where
-  split : (own text token ≡ x ∷ tail text (token .offset) (token .len)) × (v : Value)
-      × Name e (tail text (token .offset) (token .len)) v
+-- a token whose name is of the kind n
+module _ {n : NameKind} {text : List ℕ} {token : Token} (t : There text token × (x : ℕ) × Sigil n (token .kind) x) where
+  -- it is its sigil and a name
+  split : (own text token ≡ t .1 ∷ tail text (token .offset) (token .len)) × (v : Value)
+      × Name n (tail text (token .offset) (token .len)) v
   split =
-      let v = value k t (g .takes) in
-      let n = g .named (v .1) in
-      let y = tail-is text token (n .1) in
-      (rw y at (n .1), v .0, rw y at (n .2))
+      let v = one.reads (is-token (t .0 .lexed)) (Takes.a-name (t .2)) in
+      let s = go (t .2) (v .1) in
+      let y = tail-is text token (s .1) in
+      (rw y at (s .1), v .0, rw y at (s .2))
+    where
+      go : {k : TokenKind} {x : ℕ} {w : List ℕ} {v : Value} → Sigil n k x → Reads Reader.name k w v
+          → (u : List ℕ) × (w ≡ x ∷ u) × Name n u v
+      go s (Reads.a-name {w = u} {v = v} q o) =
+          let z = sigil-one q s in (u, cc (z .1), subst (λ (m : NameKind). Name m u v) (z .0) o)
 
-  pub name-sigiled : Sigiled e text (token .offset) (token .len)
-  name-sigiled = let s = split in record { fits = there-fits (t .0); sigil = x; is = s .0; value = s .1; named = s .2 }
+  pub name-sigiled : Sigiled n text (token .offset) (token .len)
+  name-sigiled =
+      let s = split in record { fits = there-fits (t .0); sigil = t .1; is = s .0; value = s .1; named = s .2 }
 
-  pub name-reads : {buffer after : List ℕ} {r : Reading}
-      → NameRead e (tail text (token .offset) (token .len)) (token .offset) buffer r after
-      → Read reader text token buffer r after
-  name-reads n =
-      there-reads (t .0) (t .1) (subst (λ (w : List ℕ). Reads reader k w (n .value)) (sym (split .0)) (g .reads (n .is))) (n .handed)
+  pub name-reads : {buffer after : List ℕ} {r : NameReading}
+      → NameHanded n (tail text (token .offset) (token .len)) (token .offset) buffer r after
+      → ReadsName text token buffer r after
+  name-reads q =
+      let r = subst (λ (w : List ℕ). Reads Reader.name (token .kind) w (q .value)) (sym (split .0)) (Reads.a-name (t .2) (q .is)) in
+      named-reads (t .2) (q .whose) (Read.reads (t .0) r (q .handed))

@@ -1,4 +1,5 @@
--- Whether a token is there, of a kind, and a number: 1 to 4 at its offset, 30 and 31 (docs/RULES.md, 11).
+-- Whether a token is there, of a kind, a number, and one that has a name: 1 to 4 at its offset, 30 and 31
+-- (docs/RULES.md, 11).
 use Prim.Native.Nat.{ℕ}
 use mathlib.Core.Path.{_≡_}
 use mathlib.Core.List.{List}
@@ -6,11 +7,15 @@ use Rattle.wat.specs.declared.{IntegerKind.IntegerKind, FloatKind.FloatKind}
 use Rattle.wat.specs.declared.{TokenKind.TokenKind, Token.Token, Refusal.Refusal}
 use Rattle.wat.specs.declared.Refusal.the-variants.{NotThatKind}
 use Rattle.wat.specs.declared.TokenKind.the-variants as kind
+use Rattle.wat_values.specs.declared.NameKind.{NameKind}
+use Rattle.wat_values.specs.Values.{Reader, Sigil, Takes}
 use Rattle.wat_values.specs.Reading as reading
 use Rattle.read_token.specs.declared.TokenCheck.{TokenCheck}
 use Rattle.read_token.specs.declared.TokenCheck.the-variants.{There, Refused}
 use Rattle.read_token.specs.declared.NumberKind.{NumberKind}
 use Rattle.read_token.specs.declared.NumberKind.the-variants as number
+use Rattle.read_token.specs.declared.NameCheck.{NameCheck}
+use Rattle.read_token.specs.declared.NameCheck.the-variants as name
 
 abbrev pub Here : List ℕ → Token → TokenCheck → Type 0
 Here text token There = reading.There text token
@@ -33,3 +38,11 @@ abbrev pub HereNumber : List ℕ → Token → NumberKind → Type 0
 HereNumber text token (number.Refused r p) = Denied text token r p
 HereNumber text token (number.Integer i) = reading.There text token × (token .kind ≡ kind.Integer i)
 HereNumber text token (number.Float f) = reading.There text token × (token .kind ≡ kind.Float f)
+
+-- whether a token is there, and whose name it has
+pub data HereName (text : List ℕ) (token : Token) : NameCheck → Type 0 where
+  missing : {r : Refusal} {p : ℕ} → reading.Missing text token r p → HereName text token (name.Refused r p)
+  no-name : reading.There text token → (Takes Reader.name (token .kind) → ⊥)
+      → HereName text token (name.Refused NotThatKind reading.noPlace)
+  named : {n : NameKind} {x : ℕ} → reading.There text token → Sigil n (token .kind) x
+      → HereName text token (name.Named n)

@@ -1,11 +1,11 @@
-// Whether a token that a caller hands in is there, of a kind, and a number.
+// Whether a token that a caller hands in is there, of a kind, a number, and one that has a name.
 
 ghost use mathlib.Core.Path.{_≡_};
 ghost use mathlib.Core.Bool.{true};
 ghost use Rattle.wat.specs.Calls.{Stands};
 ghost use Rattle.wat_values.specs.Reading.{There};
 ghost use Rattle.lex_classes.specs.Table.{Classes};
-ghost use Rattle.read_token.specs.Here.{Here, Taken, HereNumber};
+ghost use Rattle.read_token.specs.Here.{Here, Taken, HereNumber, HereName};
 use lex_entry::Entry;
 use wat::FloatKind;
 use wat::IntegerKind;
@@ -14,6 +14,7 @@ use wat::Settings;
 use wat::Token;
 use wat::TokenKind;
 use wat_values::NO_PLACE;
+use wat_values::NameKind;
 
 // Whether a token is there: 1 to 4 at its offset, and 30.
 pub enum TokenCheck {
@@ -128,5 +129,29 @@ pub fn number_kind(text: &[u8], token: Token, t: &[u8; 256]) -> NumberKind
                 },
             }
         }
+    }
+}
+
+// Whose name a token that is there has; else 1 to 4, 30 or 31.
+pub enum NameCheck {
+    Refused { refusal: Refusal, place: usize },
+    Named(NameKind),
+}
+
+pub fn name_kind(text: &[u8], token: Token, t: &[u8; 256]) -> NameCheck
+    requires { ⌜ Classes (now t) ⌝ }
+    ensures { λ r. ⌜ HereName (now (text .entry)) token r ⌝ }
+{
+    let kind = token.kind;
+    match present(text, token, t) {
+        TokenCheck::Refused { refusal, place } => NameCheck::Refused { refusal, place },
+        TokenCheck::There => match kind {
+            TokenKind::Id => NameCheck::Named(NameKind::Id),
+            TokenKind::Annotation => NameCheck::Named(NameKind::Annotation),
+            _ => NameCheck::Refused {
+                refusal: Refusal::NotThatKind,
+                place: NO_PLACE,
+            },
+        },
     }
 }

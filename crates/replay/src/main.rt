@@ -4,6 +4,7 @@ ghost use Prim.Native.Nat.{_<_};
 ghost use mathlib.Core.Path.{_≡_};
 ghost use lib.ListN.{length};
 use wat::Settings;
+use wat::Token;
 
 // The settings of a row.
 fn row_settings(row: &[u8]) -> Settings
@@ -56,6 +57,17 @@ fn list_agrees(row: &[u8], text: &[u8]) -> bool
     replay_rows::listed_agrees(row, listed) & replay_rows::bytes_agree(row, &list, 64)
 }
 
+// The token of a row.
+fn row_token(row: &[u8]) -> Token
+    requires { ⌜ length (now row) ≡ 152 ⌝ }
+{
+    c_asked::token_of([
+        replay_rows::number_at(row, 8),
+        replay_rows::number_at(row, 4),
+        replay_rows::number_at(row, 32),
+    ])
+}
+
 fn read_agrees(row: &[u8], text: &[u8]) -> bool
     requires { ⌜ length (now row) ≡ 152 ⌝ }
 {
@@ -64,24 +76,33 @@ fn read_agrees(row: &[u8], text: &[u8]) -> bool
     if 64 < n {
         return false;
     }
-    let token = [
-        replay_rows::number_at(row, 8),
-        replay_rows::number_at(row, 4),
-        replay_rows::number_at(row, 32),
-    ];
     let answer = c_read_words::reading_words(read_call::read(
         text,
         replay_rows::wide(row[1]),
-        c_asked::token_of(token),
+        row_token(row),
         &mut buffer[..n],
     ));
     replay_rows::agrees(row, answer) & replay_rows::bytes_agree(row, &buffer, 64)
 }
 
+fn name_agrees(row: &[u8], text: &[u8]) -> bool
+    requires { ⌜ length (now row) ≡ 152 ⌝ }
+{
+    let mut buffer = [238u8; 64];
+    let n = replay_rows::wide(row[3]) as usize;
+    if 64 < n {
+        return false;
+    }
+    let w = c_read_words::name_words(read_text::name(text, row_token(row), &mut buffer[..n]));
+    replay_rows::agrees(row, [w[0], w[1], w[2], w[3], w[4]])
+        & (replay_rows::number_at(row, 36) == w[5])
+        & replay_rows::bytes_agree(row, &buffer, 64)
+}
+
 // The type of a row, doubled, and one more if the answers differ; 1 for another type.
 fn verdict(kind: u8, row: &[u8], text: &[u8]) -> usize
     requires { ⌜ length (now row) ≡ 152 ⌝ }
-    ensures { λ r. ⌜ r < 10 ⌝ }
+    ensures { λ r. ⌜ r < 12 ⌝ }
 {
     match kind {
         1 => {
@@ -108,13 +129,19 @@ fn verdict(kind: u8, row: &[u8], text: &[u8]) -> usize
             }
             9
         }
+        5 => {
+            if name_agrees(row, text) {
+                return 10;
+            }
+            11
+        }
         _ => 1,
     }
 }
 
-// What a row says: its verdict; of a damaged row 10 if the answers differ, as they must, else 11; 0 for no row.
+// What a row says: its verdict; of a damaged row 12 if the answers differ, as they must, else 13; 0 for no row.
 fn replayed(row: &[u8]) -> usize
-    ensures { λ r. ⌜ r < 12 ⌝ }
+    ensures { λ r. ⌜ r < 14 ⌝ }
 {
     if row.len() != 152 {
         return 0;
@@ -130,14 +157,14 @@ fn replayed(row: &[u8]) -> usize
         return verdict(kind, row, text);
     }
     let r = verdict(kind - 128, row, text);
-    if (r == 3) | (r == 5) | (r == 7) | (r == 9) {
-        return 10;
+    if (r == 3) | (r == 5) | (r == 7) | (r == 9) | (r == 11) {
+        return 12;
     }
-    11
+    13
 }
 
 fn next(fd: i32) -> usize
-    ensures { λ r. ⌜ r < 12 ⌝ }
+    ensures { λ r. ⌜ r < 14 ⌝ }
 {
     let mut row = [0u8; 152];
     let n = io::read_full(fd, &mut row);
@@ -145,8 +172,8 @@ fn next(fd: i32) -> usize
 }
 
 // How many rows were of each type and verdict, by `replayed`; a proved loop has to end, so it counts its turns.
-fn replay_all(fd: i32) -> [u64; 12] {
-    let mut counts = [0u64; 12];
+fn replay_all(fd: i32) -> [u64; 14] {
+    let mut counts = [0u64; 14];
     let mut turns: u32 = 1_000_000;
     while 0 < turns {
         let r = next(fd);

@@ -1,9 +1,9 @@
 // Rows of recorded answers, and whether ours are the same.
 //
 // The file `answers` has rows of 152 bytes; a number of more than a byte has its least first:
-//    0  the type: 1 one token, 2 annotation, 3 listing, 4 a reader's first call; 128 more for a damaged row, which
-//       must differ
-//    1  the settings' word, or the reader's number
+//    0  the type: 1 one token, 2 annotation, 3 listing, 4 a reader's first call, 5 the name call; 128 more for a
+//       damaged row, which must differ
+//    1  the settings' word, or the reader's number; 0 of type 5
 //    2  the text's length, at most 40
 //    3  the length of the list or buffer, at most 64
 //    4  the position, or the token's offset (4 bytes)
@@ -16,7 +16,7 @@
 // The seven numbers, of types 1 to 3: what was found or why it stopped, 0 nothing or the end, 1 a token or the budget,
 // 2 a refusal, 3 no room; its kind or number; its offset or place; its length or first value; its second value; the
 // position or the count; the listing's position. Of type 4: the five words of thallusweb_read (include/thallusweb.h),
-// the token's length, 0.
+// the token's length, 0. Of type 5: the same of thallusweb_name, the token's length, its sixth word.
 ghost use Prim.Native.Nat.{_+_, _≤_, _<_};
 ghost use mathlib.Core.Path.{_≡_};
 ghost use lib.ListN.{length};
@@ -121,13 +121,21 @@ fn line(name: &[u8], agree: u64, differ: u64) {
 
 // What was counted: of each type of row how many agree, of the damaged rows how many differ, and whether all is as it
 // must be. `c` has the rows that are none at 1, then two for each type and for damaged rows.
-pub fn report(c: &[u64; 12]) {
+pub fn report(c: &[u64; 14]) {
     line(b"parse ", c[2], c[3]);
     line(b"annotation ", c[4], c[5]);
     line(b"list ", c[6], c[7]);
     line(b"read ", c[8], c[9]);
-    line(b"damaged, and noticed ", c[10], c[11]);
-    if (c[1] == 0) & (c[3] == 0) & (c[5] == 0) & (c[7] == 0) & (c[9] == 0) & (c[11] == 0) {
+    line(b"name ", c[10], c[11]);
+    line(b"damaged, and noticed ", c[12], c[13]);
+    if (c[1] == 0)
+        & (c[3] == 0)
+        & (c[5] == 0)
+        & (c[7] == 0)
+        & (c[9] == 0)
+        & (c[11] == 0)
+        & (c[13] == 0)
+    {
         io::write_all(STDOUT_FILENO, b"all agree\n");
     } else {
         io::write_all(STDOUT_FILENO, b"answers differ\n");

@@ -2,30 +2,30 @@
 -- `thallusweb_move` are in the laws of `c_spots`. Assumes nothing.
 use Prim.Native.Nat.{ℕ}
 use mathlib.Core.Path.{_≡_, refl, ap, subst}
-use mathlib.Core.List.{List}
+use mathlib.Core.List.{List, [], _∷_, _++_}
 use native.Mathlib.Omega.{arith}
 use lib.ListN.{getD, take, drop}
 use Rattle.wat.specs.declared.{Token.Token, Refusal.Refusal}
 use Rattle.wat_values.specs.declared.Reading.the-variants as reading
 use Rattle.wat.specs.declared.Settings.{Settings}
-use Rattle.wat_values.specs.Reading.{ReadsSign, ReadsNegative, Second}
+use Rattle.wat_values.specs.Reading.{ReadsName, ReadsSign, ReadsNegative, Second}
 use Rattle.wat_values.specs.Integers.{ReadsWord}
 use Rattle.wat.proofs.Basics.{differ}
 use Rattle.wat.proofs.Utf8Laws.{says-one}
 use Rattle.wat_laws.proofs.OneCall.{parses-one, annotates-one}
 use Rattle.wat_laws.proofs.Listings.{listing-one}
 use Rattle.wat_forms.proofs.FoldLaws.{folds-one}
-use Rattle.wat_values.proofs.OneReading.{reads-sign-one, reads-negative-one}
+use Rattle.wat_values.proofs.OneReading.{reads-name-one, reads-sign-one, reads-negative-one}
 use Rattle.wat_values.proofs.IntegerLaws.{reads-word-one}
 use Rattle.messages.proofs.ByNumberLaws.{tells-by-one}
 use Rattle.c_words.specs.Words.{checkedWords, refusedWords, foundWords, parsedWords, listedWords, foldedWords}
-use Rattle.c_read_words.specs.Words.{readingWords, integerSignWords, integerWords, floatSignWords, messageWords}
+use Rattle.c_read_words.specs.Words.{readingWords, nameWords, integerSignWords, integerWords, floatSignWords, messageWords}
 use Rattle.c_asked.proofs.OneAsked.{named-one, named-or-not}
 use Rattle.c_spots.specs.Spots.{PartWords}
 use Rattle.read_call.specs.ByNumber.{ReadBy}
 use Rattle.read_call.proofs.OneReader.{nowhere-one, read-by-one}
 use Rattle.thallusweb.specs.Promises.{Utf8Checked, ParsedWords, AnnotatedWords, ListedWords, Nameless, ReadWords}
-use Rattle.thallusweb.specs.Promises.{FoldedWords, IntegerSignWords, IntegerWords, FloatSignWords, MessageWords}
+use Rattle.thallusweb.specs.Promises.{NameWords, FoldedWords, IntegerSignWords, IntegerWords, FloatSignWords, MessageWords}
 
 pub utf8-checked-one : {text a b : List ℕ} → Utf8Checked text a → Utf8Checked text b → a ≡ b
 utf8-checked-one {text} (Utf8Checked.checked r s) (Utf8Checked.checked q t) = ap checkedWords (says-one text r q s t)
@@ -62,6 +62,15 @@ read-words-one {n} {text} {w} {buffer} {c = c} (ReadWords.read {a = x} p r) (Rea
 read-words-one (ReadWords.read p r) (ReadWords.nameless x) = absurd (named-or-not p (x .none))
 read-words-one (ReadWords.nameless x) (ReadWords.read p r) = absurd (named-or-not p (x .none))
 read-words-one (ReadWords.nameless x) (ReadWords.nameless y) = (nameless-one x y, refl)
+
+pub name-words-one : {text w buffer a b c d : List ℕ} → NameWords text w buffer a c → NameWords text w buffer b d
+    → (a ≡ b) × (c ≡ d)
+name-words-one {text} {w} {buffer} {c = c} (NameWords.read {a = x} p r) (NameWords.read q s) =
+    let z = reads-name-one (subst (λ (t : Token). ReadsName text t buffer x c) (named-one p q) r) s in
+    (ap nameWords (z .0), z .1)
+name-words-one (NameWords.read p r) (NameWords.nameless x) = absurd (named-or-not p (x .none))
+name-words-one (NameWords.nameless x) (NameWords.read p r) = absurd (named-or-not p (x .none))
+name-words-one (NameWords.nameless x) (NameWords.nameless y) = (ap (λ (u : List ℕ). u ++ (0 ∷ [])) (nameless-one x y), refl)
 
 pub integer-sign-words-one : {text w a b : List ℕ} → IntegerSignWords text w a → IntegerSignWords text w b → a ≡ b
 integer-sign-words-one {text} {w} (IntegerSignWords.read i p r) (IntegerSignWords.read j q s) =

@@ -11,7 +11,7 @@ use Rattle.wat.specs.declared.{TokenKind.TokenKind, LexError.LexError, Settings
 use Rattle.wat.specs.declared.{Refusal.the-variants.Lexical, Stop.Stop, Listed.Listed}
 use Rattle.wat.specs.declared.Stop.the-variants as stop
 use Rattle.wat.specs.declared.TokenKind.the-variants as kind
-use Rattle.wat_values.specs.declared.Reading.{Reading}
+use Rattle.wat_values.specs.declared.{Reading.Reading, NameKind.NameKind, NameReading.NameReading}
 use Rattle.wat_values.specs.declared.Reading.the-variants as reading
 use Rattle.wat_values.specs.declared.IntegerSign.the-variants as integer
 use Rattle.wat_values.specs.declared.FloatSign.the-variants as float
@@ -19,25 +19,26 @@ use Rattle.wat.specs.Cases.{kindNumber}
 use Rattle.wat.specs.Numbers.{negative}
 use Rattle.wat.specs.Division.{lengths, Listing}
 use Rattle.wat_laws.specs.Records.{kindAt, tokenWords}
-use Rattle.wat_values.specs.Values.{Reader, Takes, Value, Reads}
+use Rattle.wat_values.specs.Values.{Reader, Sigil, Takes, Value, Reads}
 use Rattle.wat_values.specs.Names.{Misnamed}
-use Rattle.wat_values.specs.Reading.{own, found, Second}
+use Rattle.wat_values.specs.Reading.{own, found, readingOf, Whose, Second}
 use Rattle.wat_values.specs.Integers.{Worded}
-use Rattle.wat_values.specs.Readable.{bytesOf, filled, Readable, SignOf, HasSign, Signs, SignRead, WordRead, Passes}
+use Rattle.wat_values.specs.Readable.{bytesOf, filled, Readable, NameRead, SignOf, HasSign, Signs, SignRead, WordRead, Passes}
 use Rattle.c_words.specs.Words.{refusedWords, stopWords, listedWords}
-use Rattle.c_read_words.specs.Words.{readingWords}
+use Rattle.c_read_words.specs.Words.{readingWords, kindWord, nameWords}
 use Rattle.c_spots.specs.Spots.{PartWords}
 use Rattle.c_asked.specs.Asked.{Denotes}
 use Rattle.read_call.specs.ByNumber.{readers, nth, ReadBy}
-use Rattle.thallusweb.specs.Promises.{ListedWords, ReadWords, IntegerSignWords, IntegerWords, FloatSignWords}
-use Rattle.thallusweb.specs.ReadableWords.{ownBytes, PartBytes, foundIn, YieldsWords, ReadableWords, SignsWords}
-use Rattle.thallusweb.specs.ReadableWords.{SignReadWords, WordReadWords, PassesWords}
+use Rattle.thallusweb.specs.Promises.{ListedWords, ReadWords, NameWords, IntegerSignWords, IntegerWords, FloatSignWords}
+use Rattle.thallusweb.specs.ReadableWords.{ownBytes, PartBytes, foundIn, kindFor, namedIn, YieldsWords, ReadableWords}
+use Rattle.thallusweb.specs.ReadableWords.{SignsWords, SignReadWords, WordReadWords, PassesWords}
 use Rattle.wat_laws.proofs.RecordLaws.{SaidOf, words-said, whole-decode}
 use Rattle.wat_values.proofs.ReadingLaws.{listed-stands}
 use Rattle.wat_values.proofs.Readable.{passes-readable}
 use Rattle.wat.proofs.KindNumbers.{injective}
 use Rattle.c_spots.proofs.SpotLaws.{part-words-one}
-use Rattle.thallusweb.proofs.OneWords.{read-words-one, integer-sign-words-one, integer-words-one, float-sign-words-one}
+use Rattle.thallusweb.proofs.OneWords.{read-words-one, name-words-one, integer-sign-words-one, integer-words-one}
+use Rattle.thallusweb.proofs.OneWords.{float-sign-words-one}
 
 -- ---- the second call
 
@@ -70,6 +71,17 @@ refused-words reading.Absent e = absurd (omega arith)
 refused-words (reading.Text s l) e = absurd (omega arith)
 refused-words (reading.Refused r p) e = (r, p, refl, refl)
 refused-words (reading.Buffer s l) e = absurd (omega arith)
+
+kind-said : {n : NameKind} {k : TokenKind} {x : ℕ} → Sigil n k x → kindWord n ≡ kindNumber k
+kind-said Sigil.id = refl
+kind-said Sigil.annotation = refl
+
+-- the words of a name's answer are those of the reader's, and the kind's number where it is a name
+named-said : {n : NameKind} {k : TokenKind} {x : ℕ} {a : NameReading} → Sigil n k x → Whose n a
+    → nameWords a ≡ readingWords (readingOf a) ++ (kindFor k (readingOf a) ∷ [])
+named-said s Whose.no-name = refl
+named-said s (Whose.in-text {start = i} {len = l}) = ap (λ (o : ℕ). 1 ∷ i ∷ l ∷ 0 ∷ 0 ∷ o ∷ []) (kind-said s)
+named-said s (Whose.in-buffer {start = i} {len = l}) = ap (λ (o : ℕ). 3 ∷ i ∷ l ∷ 0 ∷ 0 ∷ o ∷ []) (kind-said s)
 
 -- ---- a token by its words
 
@@ -139,6 +151,16 @@ module _ (text w : List ℕ) {t : Token} (d : Denotes w t) where
       (λ buffer h. subst (λ (x : List ℕ). ReadWords n text w buffer x (filled (r .value) buffer)) (same-found (r .value))
       (ReadWords.read d (ReadBy.by e (r .there buffer h .answers))))
 
+  name-words : {n : NameKind} {x : ℕ} → Sigil n (t .kind) x → NameRead n text t → Readable Reader.name text t
+      → ReadableWords (NameWords text w) (namedIn (t .kind) w) Reader.name (t .kind) text w
+  name-words s n r =
+      readable-words (namedIn (t .kind) w) (λ buffer a b c d x y. name-words-one x y) r
+      (λ buffer h. let y = n .there (r .reads) buffer h in
+      subst (λ (x : List ℕ). NameWords text w buffer x (filled (r .value) buffer))
+      (named-said s (y .whose) ∙ ap (λ (z : Reading). readingWords z ++ (kindFor (t .kind) z ∷ []))
+      (y .is ∙ ap (λ (o : ℕ). found o (r .value)) (d .stands)))
+      (NameWords.read d (y .answers)))
+
   signs-words : SignRead text t → SignReadWords (t .kind) text w
   signs-words r = record {
     sign = r .sign;
@@ -196,6 +218,9 @@ said-kind : {l : List ℕ} {ts : List _} {i : ℕ} (s : SaidOf l ts i) (k : Toke
     → s .token .kind ≡ k
 said-kind s k n = injective (s .token .kind) k (sym (s .said .kind-said) ∙ sym n)
 
+named-token : {k : TokenKind} → Takes Reader.name k → (n : NameKind) × (x : ℕ) × Sigil n k x
+named-token (Takes.a-name s) = (_, _, s)
+
 pub passes-words : {σ : Settings} {text list out l : List ℕ} {budget : ℕ} → ListedWords σ text 0 budget list out l
     → getD out 0 0 ≡ 0 → PassesWords σ text out l
 passes-words {σ} {text} {list} {l = l} (ListedWords.listed {r = r} x) e =
@@ -223,6 +248,14 @@ passes-words {σ} {text} {list} {l = l} (ListedWords.listed {r = r} x) e =
           (read-words text w (said-denotes s) o
           (p .readable (s .before) (s .after) (s .token) (s .parted) reader
           (subst (λ (j : TokenKind). Takes reader j) (sym z) takes)));
+      named = λ i h k n′ takes.
+          let s = said i h in
+          let z = said-kind s k n′ in
+          let w = tokenWords l i in
+          let q = named-token (subst (λ (j : TokenKind). Takes Reader.name j) (sym z) takes) in
+          subst (λ (j : TokenKind). ReadableWords (NameWords text w) (namedIn j w) Reader.name j text w) z
+          (name-words text w (said-denotes s) (q .2) (p .named (s .before) (s .after) (s .token) (s .parted) (q .2))
+          (p .readable (s .before) (s .after) (s .token) (s .parted) Reader.name (Takes.a-name (q .2))));
       signed = λ i h k n′ has.
           let s = said i h in
           let z = said-kind s k n′ in

@@ -13,7 +13,8 @@ use Rattle.wat.specs.declared.Refusal.the-variants.{Lexical}
 use Rattle.wat.specs.declared.Found.the-variants as found
 use Rattle.wat.specs.declared.Answer.the-variants as answer
 use Rattle.wat.specs.declared.Stop.the-variants as stop
-use Rattle.wat_values.specs.declared.{Reading.Reading, IntegerSign.IntegerSign, IntegerValue.IntegerValue, FloatSign.FloatSign}
+use Rattle.wat_values.specs.declared.{Reading.Reading, NameReading.NameReading, IntegerSign.IntegerSign, IntegerValue.IntegerValue}
+use Rattle.wat_values.specs.declared.FloatSign.{FloatSign}
 use Rattle.wat_forms.specs.declared.Folded.{Folded}
 use Rattle.wat_forms.specs.declared.Folded.the-variants as folded
 use Rattle.messages.specs.declared.Told.{Told}
@@ -27,7 +28,7 @@ use Rattle.wat.specs.Calls.{Stands, Parses, Annotates, at}
 use Rattle.wat.specs.Division.{Piece, lengths, Divided, Walked, recordSize, records, Listing}
 use Rattle.wat.specs.LexModel.{lex}
 use Rattle.wat_values.specs.Values.{Reader, Value, Reads}
-use Rattle.wat_values.specs.Reading.{There, Read, Second, ReadsSign, ReadsNegative}
+use Rattle.wat_values.specs.Reading.{There, Read, ReadsName, Second, ReadsSign, ReadsNegative}
 use Rattle.wat_values.specs.Integers.{ReadsWord}
 use Rattle.wat_forms.specs.Forms.{Folds}
 use Rattle.wat_forms.specs.Balance.{WholeForm, Structural}
@@ -40,7 +41,7 @@ use Rattle.place.specs.Places.{Moves}
 use Rattle.place.specs.Pieces.{InTwo}
 use Rattle.c_spots.specs.Spots.{MovedWords}
 use Rattle.c_words.specs.Words.{foldedWords}
-use Rattle.c_read_words.specs.Words.{integerWords}
+use Rattle.c_read_words.specs.Words.{nameWords, integerWords}
 use Rattle.wat.proofs.OneKind as kinds
 use Rattle.wat.proofs.Unique as unique
 use Rattle.wat.proofs.Utf8Laws as utf8
@@ -85,16 +86,16 @@ use Rattle.c_read_words.proofs.TellLaws as tell
 -- ---- what passes can be read
 
 -- For callers from C: where `thallusweb_list` from 0 leaves 0 in out[0], each record of its list, decoded and handed to
--- `thallusweb_read` with a buffer no shorter than the token, and that answer to `thallusweb_part`, gives the token's one value, and
--- the sign calls give its sign. Only a name that is empty or not UTF-8 is refused. The value calls of an integer give its word, or
--- 40 where it is out of range.
+-- `thallusweb_read` or `thallusweb_name` with a buffer no shorter than the token, and that answer to `thallusweb_part`, gives the
+-- token's one value, with a name its kind, and the sign calls give its sign. Only a name that is empty or not UTF-8 is refused. The
+-- value calls of an integer give its word, or 40 where it is out of range.
 pub passes-words : {σ : Settings} {text list out l : List ℕ} {budget : ℕ} → ListedWords σ text 0 budget list out l
     → getD out 0 0 ≡ 0 → PassesWords σ text out l
 passes-words x e = words.passes-words x e
 
 -- A text that the listing carries from byte 0 to its end is divided in one way only, and each of its tokens, read there or
--- alone with a buffer no shorter than itself, yields its one value, and its sign to the sign call. Only a name that is empty
--- or not UTF-8 is refused. The value call of an integer yields its word, or 40 where it is out of range.
+-- alone with a buffer no shorter than itself, yields its one value, with a name whose it is, and its sign to the sign call. Only a
+-- name that is empty or not UTF-8 is refused. The value call of an integer yields its word, or 40 where it is out of range.
 pub passes-readable : {σ : Settings} {text : List ℕ} {budget : ℕ} {list l : List ℕ} {r : Listed}
     → Listing σ text 0 budget list r l → r .stop ≡ stop.End → Passes σ text list r l
 passes-readable x e = readable.passes-readable x e
@@ -294,6 +295,15 @@ reads-one a b = values.reads-one a b
 pub read-one : {reader : Reader} {text buffer b b′ : List ℕ} {token : Token} {a a′ : Reading}
     → Read reader text token buffer a b → Read reader text token buffer a′ b′ → (a ≡ a′) × (b ≡ b′)
 read-one x y = reading.read-one x y
+
+-- An answer with the other token's kind is a second one, and so is refused.
+pub reads-name-one : {text buffer b b′ : List ℕ} {token : Token} {a a′ : NameReading}
+    → ReadsName text token buffer a b → ReadsName text token buffer a′ b′ → (a ≡ a′) × (b ≡ b′)
+reads-name-one x y = reading.reads-name-one x y
+
+-- For callers from C: its words tell the answer.
+pub name-words-tell : (a b : NameReading) → nameWords a ≡ nameWords b → a ≡ b
+name-words-tell a b e = tell.name-words-tell a b e
 
 pub second-one : {text buffer v w : List ℕ} {a : Reading} → Second text buffer a v → Second text buffer a w → v ≡ w
 second-one x y = reading.second-one x y

@@ -4,7 +4,8 @@ use mathlib.Core.Path.{_≡_, sym, subst}
 use mathlib.Core.List.{List}
 use lib.ListN.{getD}
 use Rattle.wat.specs.declared.{Checked.Checked, Found.Found, Parsed.Parsed, Listed.Listed, Token.Token, Refusal.Refusal}
-use Rattle.wat_values.specs.declared.{Reading.Reading, IntegerSign.IntegerSign, IntegerValue.IntegerValue, FloatSign.FloatSign}
+use Rattle.wat_values.specs.declared.{Reading.Reading, NameReading.NameReading, IntegerSign.IntegerSign, IntegerValue.IntegerValue}
+use Rattle.wat_values.specs.declared.{FloatSign.FloatSign, NameReading.the-variants.Refused}
 use Rattle.wat_forms.specs.declared.Folded.{Folded}
 use Rattle.messages.specs.declared.Told.{Told}
 use Rattle.wat.specs.declared.Settings.{Settings}
@@ -12,16 +13,16 @@ use Rattle.wat.specs.Utf8.{Says}
 use Rattle.wat.specs.Calls.{Parses, Annotates}
 use Rattle.wat.specs.Division.{Listing}
 use Rattle.wat_forms.specs.Forms.{Folds}
-use Rattle.wat_values.specs.Reading.{ReadsSign, ReadsNegative}
+use Rattle.wat_values.specs.Reading.{ReadsName, ReadsSign, ReadsNegative}
 use Rattle.wat_values.specs.Integers.{ReadsWord}
 use Rattle.messages.specs.ByNumber.{TellsBy}
 use Rattle.c_words.specs.Words.{checkedWords, refusedWords, foundWords, parsedWords, listedWords, foldedWords}
-use Rattle.c_read_words.specs.Words.{readingWords, integerSignWords, integerWords, floatSignWords, messageWords}
+use Rattle.c_read_words.specs.Words.{readingWords, nameWords, integerSignWords, integerWords, floatSignWords, messageWords}
 use Rattle.c_asked.specs.Asked.{settingsOf, Denotes, DenotesNone, Empty, Asks}
 use Rattle.read_call.specs.ByNumber.{ReadBy, Nowhere}
-use Rattle.read_call.proofs.NowhereLaws.{read-nowhere, sign-nowhere, word-nowhere, negative-nowhere}
+use Rattle.read_call.proofs.NowhereLaws.{read-nowhere, name-nowhere, sign-nowhere, word-nowhere, negative-nowhere}
 use Rattle.thallusweb.specs.Promises.{Utf8Checked, ParsedWords, AnnotatedWords, ListedWords, Nameless, ReadWords}
-use Rattle.thallusweb.specs.Promises.{FoldedWords, IntegerSignWords, IntegerWords, FloatSignWords, MessageWords}
+use Rattle.thallusweb.specs.Promises.{NameWords, FoldedWords, IntegerSignWords, IntegerWords, FloatSignWords, MessageWords}
 
 pub checked-words : {text w : List ℕ} (r : Checked) → Says text r → w ≡ checkedWords r → Utf8Checked text w
 checked-words {text} r s e = subst (Utf8Checked text) (sym e) (Utf8Checked.checked r s)
@@ -72,6 +73,14 @@ module _ {text w : List ℕ} {t : Token} where
       said-words (λ q p. P (refusedWords q p) buffer) (λ u. P u b) (readingWords a) z k (λ q. ReadWords.read q r)
       (λ n f. read-nowhere n (λ (a : Reading) (c : List ℕ). P (readingWords a) c) r f)
       (λ q p x. ReadWords.nameless x)
+
+  pub name-words : {buffer b v : List ℕ} (a : NameReading) → Asks w t → ReadsName text t buffer a b → v ≡ nameWords a
+      → NameWords text w buffer v b
+  name-words {buffer} {b} a k r z =
+      let P : List ℕ → List ℕ → Type 0 = NameWords text w buffer in
+      said-words (λ q p. P (nameWords (Refused q p)) buffer) (λ u. P u b) (nameWords a) z k (λ q. NameWords.read q r)
+      (λ n f. name-nowhere n (λ (a : NameReading) (c : List ℕ). P (nameWords a) c) r f)
+      (λ q p x. NameWords.nameless x)
 
   -- a call that takes no buffer
   answer-words : (P : List ℕ → Type 0) (u : List ℕ) {v : List ℕ} → v ≡ u → Asks w t → (Denotes w t → P u)

@@ -3,8 +3,9 @@ use Prim.Native.Nat.{ℕ}
 use mathlib.Core.List.{List}
 use lib.ListN.{getD}
 use Rattle.wat.specs.declared.{Checked.Checked, Token.Token, Refusal.Refusal, Found.Found, Parsed.Parsed, Listed.Listed}
-use Rattle.wat_values.specs.declared.{Reading.Reading, IntegerSign.IntegerSign, FloatSign.FloatSign}
-use Rattle.wat_values.specs.declared.IntegerValue.{IntegerValue}
+use Rattle.wat_values.specs.declared.{Reading.Reading, NameReading.NameReading, IntegerSign.IntegerSign}
+use Rattle.wat_values.specs.declared.{FloatSign.FloatSign, IntegerValue.IntegerValue}
+use Rattle.wat_values.specs.declared.NameReading.the-variants as name
 use Rattle.wat_forms.specs.declared.Folded.{Folded}
 use Rattle.messages.specs.declared.Told.{Told}
 use Rattle.wat.specs.declared.Settings.{Settings}
@@ -12,11 +13,12 @@ use Rattle.wat.specs.Utf8.{Says}
 use Rattle.wat.specs.Calls.{Parses, Annotates}
 use Rattle.wat.specs.Division.{Listing}
 use Rattle.wat_forms.specs.Forms.{Folds}
-use Rattle.wat_values.specs.Reading.{ReadsSign, ReadsNegative}
+use Rattle.wat_values.specs.Reading.{ReadsName, ReadsSign, ReadsNegative}
 use Rattle.wat_values.specs.Integers.{ReadsWord}
 use Rattle.messages.specs.ByNumber.{TellsBy}
 use Rattle.c_words.specs.Words.{checkedWords, refusedWords, foundWords, parsedWords, listedWords, foldedWords}
-use Rattle.c_read_words.specs.Words.{readingWords, integerSignWords, integerWords, floatSignWords, messageWords}
+use Rattle.c_read_words.specs.Words.{readingWords, nameWords, integerSignWords, integerWords, floatSignWords}
+use Rattle.c_read_words.specs.Words.{messageWords}
 use Rattle.c_asked.specs.Asked.{Denotes, DenotesNone}
 use Rattle.read_call.specs.ByNumber.{ReadBy, Nowhere}
 
@@ -48,6 +50,12 @@ pub data ReadWords (n : ℕ) (text w buffer : List ℕ) : List ℕ → List ℕ 
   read : {t : Token} {a : Reading} {b : List ℕ} → Denotes w t → ReadBy n text t buffer a b
       → ReadWords n text w buffer (readingWords a) b
   nameless : {r : Refusal} {p : ℕ} → Nameless text w r p → ReadWords n text w buffer (refusedWords r p) buffer
+
+-- the name call
+pub data NameWords (text w buffer : List ℕ) : List ℕ → List ℕ → Type 0 where
+  read : {t : Token} {a : NameReading} {b : List ℕ} → Denotes w t → ReadsName text t buffer a b
+      → NameWords text w buffer (nameWords a) b
+  nameless : {r : Refusal} {p : ℕ} → Nameless text w r p → NameWords text w buffer (nameWords (name.Refused r p)) buffer
 
 pub data IntegerSignWords (text w : List ℕ) : List ℕ → Type 0 where
   read : {t : Token} (s : IntegerSign) → Denotes w t → ReadsSign text t s → IntegerSignWords text w (integerSignWords s)

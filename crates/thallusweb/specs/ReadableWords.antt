@@ -1,8 +1,9 @@
 -- What passes can be read, for callers from C: if `thallusweb_list` from 0 leaves 0 in out[0], each record of its list,
--- decoded to three words and handed to `thallusweb_read` with a reader for its kind and a buffer no shorter than the
--- token, and that answer to `thallusweb_part`, gives the value of the definitions; and to the sign calls its sign. The
--- one refusal left is a name that is empty or not UTF-8. The value calls of an integer give its word, or 40 where it is
--- out of range. `PassesWords` says it; it is proved as `passes-words`.
+-- decoded to three words and handed to `thallusweb_read` with a reader for its kind, or to `thallusweb_name`, with a
+-- buffer no shorter than the token, and that answer to `thallusweb_part`, gives the value of the definitions; and to
+-- the sign calls its sign. The one refusal left is a name that is empty or not UTF-8; with every other name comes the
+-- token's kind. The value calls of an integer give its word, or 40 where it is out of range. `PassesWords` says it; it
+-- is proved as `passes-words`.
 use Prim.Native.Nat.{ℕ, _≤_, _<_}
 use mathlib.Core.Path.{_≡_}
 use mathlib.Core.Logic.{_↔_}
@@ -12,7 +13,8 @@ use lib.ListN.{length, getD, take, drop}
 use Rattle.wat.specs.declared.{Sign.Sign, TokenKind.TokenKind, LexError.LexError, Settings.Settings}
 use Rattle.wat.specs.declared.TokenKind.the-variants as kind
 use Rattle.wat.specs.declared.{IntegerKind.IntegerKind, FloatKind.FloatKind, Refusal.the-variants.Lexical}
-use Rattle.wat_values.specs.declared.IntegerValue.{IntegerValue}
+use Rattle.wat_values.specs.declared.{Reading.Reading, IntegerValue.IntegerValue}
+use Rattle.wat_values.specs.declared.Reading.the-variants.{Refused, Absent, Text, Buffer}
 use Rattle.wat.specs.Cases.{flag, kindNumber}
 use Rattle.wat.specs.Numbers.{negative}
 use Rattle.wat.specs.Division.{Piece, lengths, Divided}
@@ -27,7 +29,7 @@ use Rattle.c_words.specs.Words.{refusedWords}
 use Rattle.c_read_words.specs.Words.{readingWords, signWord, integerWords}
 use Rattle.c_spots.specs.Spots.{PartWords}
 use Rattle.read_call.specs.ByNumber.{readers, nth}
-use Rattle.thallusweb.specs.Promises.{ReadWords, IntegerSignWords, IntegerWords, FloatSignWords}
+use Rattle.thallusweb.specs.Promises.{ReadWords, NameWords, IntegerSignWords, IntegerWords, FloatSignWords}
 
 -- the bytes of a token, by its words: its length of them from its offset on
 abbrev pub ownBytes : List ℕ → List ℕ → List ℕ
@@ -44,6 +46,18 @@ pub data PartBytes (text buffer : List ℕ) : List ℕ → List ℕ → Type 0 w
 -- the words with which `thallusweb_read` answers that it found the value v of the token whose words are w
 abbrev pub foundIn : List ℕ → Value → List ℕ
 foundIn w v = readingWords (found (getD w 1 0) v)
+
+-- the number of the kind k, where an answer names a part; else 0
+abbrev pub kindFor : TokenKind → Reading → ℕ
+kindFor k (Refused r p) = 0
+kindFor k Absent = 0
+kindFor k (Text start len) = kindNumber k
+kindFor k (Buffer start len) = kindNumber k
+
+-- the words with which `thallusweb_name` answers so, of a token of the kind k: the same five, and the kind's number, or
+-- 0 where the name is refused
+abbrev pub namedIn : TokenKind → List ℕ → Value → List ℕ
+namedIn k w v = foundIn w v ++ (kindFor k (found (getD w 1 0) v) ∷ [])
 
 -- two calls yield the value v of the token whose words are w; the first leaves the words `out`
 pub record YieldsWords (call : List ℕ → List ℕ → Type 0) (out text w : List ℕ) (v : Value) (buffer : List ℕ) :
@@ -116,10 +130,13 @@ pub record PassesWords (σ : Settings) (text out l : List ℕ) : Type 0 where
       × (length us ≡ i) × (tokenWords l i ≡ kindNumber (t .kind) ∷ lengths us ∷ t .len ∷ [])
   -- so each record has the number of a kind
   pub kinds : (i : ℕ) → i < getD out 5 0 → (k : TokenKind) × (kindNumber k ≡ kindAt l i)
-  -- each token can be read by each reader that takes its kind
+  -- each token can be read by each reader with a number that takes its kind
   pub readable : (i : ℕ) → i < getD out 5 0 → (k : TokenKind) → kindNumber k ≡ kindAt l i → (n : ℕ) (reader : Reader)
       → nth readers n ≡ some reader → Takes reader k
       → ReadableWords (ReadWords n text (tokenWords l i)) (foundIn (tokenWords l i)) reader k text (tokenWords l i)
+  -- and each that has a name by the name call, which says its kind
+  pub named : (i : ℕ) → i < getD out 5 0 → (k : TokenKind) → kindNumber k ≡ kindAt l i → Takes Reader.name k
+      → ReadableWords (NameWords text (tokenWords l i)) (namedIn k (tokenWords l i)) Reader.name k text (tokenWords l i)
   -- and of each that has a sign the sign is read
   pub signed : (i : ℕ) → i < getD out 5 0 → (k : TokenKind) → kindNumber k ≡ kindAt l i → HasSign k
       → SignReadWords k text (tokenWords l i)

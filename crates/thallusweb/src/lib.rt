@@ -5,8 +5,8 @@ ghost use Rattle.c_words.specs.Words.{wordsVersion};
 ghost use Rattle.c_asked.specs.Asked.{settingsOf};
 ghost use Rattle.c_spots.specs.Spots.{PartWords, MovedWords};
 ghost use Rattle.thallusweb.specs.Promises.{Utf8Checked, ParsedWords, AnnotatedWords};
-ghost use Rattle.thallusweb.specs.Promises.{ListedWords, ReadWords, IntegerSignWords, IntegerWords};
-ghost use Rattle.thallusweb.specs.Promises.{FloatSignWords, FoldedWords, MessageWords};
+ghost use Rattle.thallusweb.specs.Promises.{ListedWords, ReadWords, NameWords, IntegerSignWords};
+ghost use Rattle.thallusweb.specs.Promises.{IntegerWords, FloatSignWords, FoldedWords, MessageWords};
 pub use lex_calls::annotation;
 pub use lex_calls::parse;
 pub use lex_forms::fold;
@@ -23,8 +23,8 @@ pub use read_float::payload;
 pub use read_integer::integer;
 pub use read_integer::integer_sign;
 pub use read_second::part;
-pub use read_text::annotation as annotation_name;
-pub use read_text::id;
+pub use read_second::reading_of;
+pub use read_text::name;
 pub use read_text::src;
 pub use read_text::string;
 pub use read_value::integer_32;
@@ -121,6 +121,20 @@ pub extern "C" fn thallusweb_read(
         c_asked::token_of(*token),
         buffer,
     ));
+}
+
+// The name of an id or an annotation, by the token's three words; the last word says which of the two it is.
+#[no_mangle]
+pub extern "C" fn thallusweb_name(
+    text: &[u8],
+    token: &[u64; 3],
+    buffer: &mut [u8],
+    out: &mut [u64; 6],
+)
+    ensures { λ _. ⌜ NameWords (now (text .entry)) (now (token .entry)) (now (buffer .entry)) (now (out .exit))
+        (now (buffer .exit)) ⌝ }
+{
+    *out = c_read_words::name_words(read_text::name(text, c_asked::token_of(*token), buffer));
 }
 
 // An integer's sign.

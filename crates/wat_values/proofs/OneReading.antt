@@ -5,11 +5,13 @@ use mathlib.Core.List.{List, _++_}
 use native.Mathlib.Omega.{arith}
 use lib.ListN.{length, drop}
 use Rattle.wat.specs.declared.{TokenKind.TokenKind, Token.Token, Refusal.Refusal}
-use Rattle.wat_values.specs.declared.{Reading.Reading, IntegerSign.IntegerSign, FloatSign.FloatSign}
+use Rattle.wat_values.specs.declared.{Reading.Reading, NameReading.NameReading, IntegerSign.IntegerSign, FloatSign.FloatSign}
 use Rattle.wat_values.specs.Values.{Reader, Takes, Value, Reads}
-use Rattle.wat_values.specs.Reading.{There, Missing, needs, found, Handed, Read, Second, ReadsSign, negativeOf, ReadsNegative}
+use Rattle.wat_values.specs.Reading.{There, Missing, needs, found, Handed, Read, ReadsName, Second, ReadsSign, negativeOf}
+use Rattle.wat_values.specs.Reading.{ReadsNegative}
+use Rattle.wat.proofs.Basics.{differ}
 use Rattle.wat_laws.proofs.OneCall.{rejected-one, stands-or-rejected}
-use Rattle.wat_values.proofs.OneValue.{reads-one}
+use Rattle.wat_values.proofs.OneValue.{sigil-one, reads-one}
 
 pub missing-one : {text : List ℕ} {token : Token} {r r′ : Refusal} {p p′ : ℕ} → Missing text token r p
     → Missing text token r′ p′
@@ -27,8 +29,7 @@ there-or-missing t (Missing.not-there s n) = n t
 pub reads-takes : {r : Reader} {k : TokenKind} {w : List ℕ} {v : Value} → Reads r k w v → Takes r k
 reads-takes Reads.itself = Takes.any
 reads-takes (Reads.a-string q) = Takes.a-string
-reads-takes (Reads.an-id n) = Takes.an-id
-reads-takes (Reads.an-annotation n) = Takes.an-annotation
+reads-takes (Reads.a-name s n) = Takes.a-name s
 reads-takes (Reads.an-integer x) = Takes.an-integer
 reads-takes (Reads.an-integral x) = Takes.a-float
 reads-takes (Reads.no-fraction x) = Takes.a-float
@@ -62,6 +63,18 @@ read-one (Read.other-kind t n) (Read.reads t′ r h) = absurd (n (reads-takes r)
 read-one (Read.reads t r h) (Read.missing x) = absurd (there-or-missing t x)
 read-one (Read.reads t r h) (Read.other-kind t′ n) = absurd (n (reads-takes r))
 read-one (Read.reads t r h) (Read.reads t′ r′ h′) = handed-one h h′ (reads-one r r′)
+
+pub reads-name-one : {text buffer b b′ : List ℕ} {token : Token} {a a′ : NameReading} → ReadsName text token buffer a b
+    → ReadsName text token buffer a′ b′ → (a ≡ a′) × (b ≡ b′)
+reads-name-one (ReadsName.no-name x) (ReadsName.no-name y) = let z = read-one x y in (cc (z .0), z .1)
+reads-name-one (ReadsName.no-name x) (ReadsName.in-text t y) = let z = read-one x y in let q = z .0 in differ (cc)
+reads-name-one (ReadsName.no-name x) (ReadsName.in-buffer t y) = let z = read-one x y in let q = z .0 in differ (cc)
+reads-name-one (ReadsName.in-text s x) (ReadsName.no-name y) = let z = read-one x y in let q = z .0 in differ (cc)
+reads-name-one (ReadsName.in-text s x) (ReadsName.in-text t y) = let z = read-one x y in (cc (z .0, sigil-one s t .0), z .1)
+reads-name-one (ReadsName.in-text s x) (ReadsName.in-buffer t y) = let z = read-one x y in let q = z .0 in differ (cc)
+reads-name-one (ReadsName.in-buffer s x) (ReadsName.no-name y) = let z = read-one x y in let q = z .0 in differ (cc)
+reads-name-one (ReadsName.in-buffer s x) (ReadsName.in-text t y) = let z = read-one x y in let q = z .0 in differ (cc)
+reads-name-one (ReadsName.in-buffer s x) (ReadsName.in-buffer t y) = let z = read-one x y in (cc (z .0, sigil-one s t .0), z .1)
 
 -- the second call takes one part
 pub second-one : {text buffer v w : List ℕ} {a : Reading} → Second text buffer a v → Second text buffer a w → v ≡ w

@@ -8,7 +8,6 @@ use lib.ListN.{length, take, length-append}
 use lib.Seq.{take-append-seam}
 use Rattle.wat.specs.declared.Sign.{Sign}
 use Rattle.wat.specs.declared.TokenKind.{TokenKind}
-use Rattle.wat.specs.declared.LexError.{LexError}
 use Rattle.wat.specs.declared.Checked.the-variants.{Ok, Bad}
 use Rattle.wat.specs.Bytes.{has, Each}
 use Rattle.wat.specs.Settings.{lenient}
@@ -17,7 +16,8 @@ use Rattle.wat.specs.Numbers.{prefix, nan-colon, Digits, Signed}
 use Rattle.wat.specs.NumberModel.{past, run, sign-of, after-sign, fraction}
 use Rattle.wat.specs.Chars.{idchar}
 use Rattle.wat.specs.Strings.{Str}
-use Rattle.wat_values.specs.Values.{Reader, Value, copyOrPart, bare, Name, Split, Reads}
+use Rattle.wat_values.specs.declared.NameKind.{NameKind}
+use Rattle.wat_values.specs.Values.{Reader, Sigil, Value, copyOrPart, bare, Name, Split, Reads}
 use Rattle.wat.proofs.Numbers.Digits.{passes}
 use Rattle.wat.proofs.Numbers.Parts.{Plain, plain, sign-passed, after-passed, digits-plain, fraction-stops, fraction-passed}
 use Rattle.wat.proofs.Numbers.Decides.{body-plain}
@@ -35,7 +35,7 @@ no-word (Each.next {x = x} e r) (Str.quoted p) q = let z : x ≡ 0x22 = cc in ne
 no-empty : {s v : List ℕ} → Str lenient s v → s ≡ [] → ⊥
 no-empty (Str.quoted p) q = let y : _≡_ {A = ℕ} 0 1 = cc in omega arith
 
-names-one : {e : LexError} {w w′ : List ℕ} {r r′ : Value} → Name e w r → Name e w′ r′ → w ≡ w′ → r ≡ r′
+names-one : {n : NameKind} {w w′ : List ℕ} {r r′ : Value} → Name n w r → Name n w′ r′ → w ≡ w′ → r ≡ r′
 names-one (Name.word a) (Name.word b) q = cc
 names-one (Name.word a) Name.nothing q = differ (cc)
 names-one (Name.word a) (Name.quoted p s) q = absurd (no-word a p (sym q))
@@ -67,8 +67,13 @@ names-one (Name.quoted-wrong {n = n} {l = l} p s) (Name.quoted-nothing p′) q =
 names-one (Name.quoted-wrong {v = v} {n = n} {l = l} p s) (Name.quoted-wrong {n = n′} {l = l′} p′ s′) q =
     let e = value-of p p′ q in let z = says-one v (Bad n l) (Bad n′ l′) s (rw (sym e) at s′) in cc
 
-pub name-one : {e : LexError} {w : List ℕ} {r r′ : Value} → Name e w r → Name e w r′ → r ≡ r′
+pub name-one : {n : NameKind} {w : List ℕ} {r r′ : Value} → Name n w r → Name n w r′ → r ≡ r′
 name-one a b = names-one a b refl
+
+-- a kind of token has one sigil
+pub sigil-one : {n m : NameKind} {k : TokenKind} {x y : ℕ} → Sigil n k x → Sigil m k y → (n ≡ m) × (x ≡ y)
+sigil-one Sigil.id Sigil.id = (refl, refl)
+sigil-one Sigil.annotation Sigil.annotation = (refl, refl)
 
 -- ---- numbers
 
@@ -137,8 +142,8 @@ payload-same {sign} {sign′} {u} {u′} s s′ c g g′ e e′ =
 pub reads-one : {r : Reader} {k : TokenKind} {w : List ℕ} {v v′ : Value} → Reads r k w v → Reads r k w v′ → v ≡ v′
 reads-one Reads.itself Reads.itself = refl
 reads-one {w = w} (Reads.a-string p) (Reads.a-string q) = let e = value-of p q refl in cc
-reads-one (Reads.an-id a) (Reads.an-id b) = name-one a b
-reads-one (Reads.an-annotation a) (Reads.an-annotation b) = name-one a b
+reads-one (Reads.a-name {w = w} {v = v} s a) (Reads.a-name t b) =
+    name-one (subst (λ (n : NameKind). Name n w v) (sigil-one s t .0) a) b
 reads-one (Reads.an-integer x) (Reads.an-integer y) = let z = split-one x y in cc (z .0, z .2)
 reads-one (Reads.an-integral x) (Reads.an-integral y) = let z = split-one x y in cc (z .0, z .2)
 reads-one (Reads.no-fraction x) (Reads.no-fraction y) = refl

@@ -11,7 +11,7 @@ use lib.Seq.{take-take}
 use Rattle.wat.specs.declared.{IntegerKind.IntegerKind, TokenKind.TokenKind}
 use Rattle.wat.specs.declared.TokenKind.the-variants as kind
 use Rattle.wat.specs.declared.{Token.Token, LexError.LexError, Refusal.Refusal, Refusal.the-variants.Lexical, Listed.Listed}
-use Rattle.wat_values.specs.declared.Reading.{Reading}
+use Rattle.wat_values.specs.declared.{Reading.Reading, NameKind.NameKind}
 use Rattle.wat.specs.declared.Answer.the-variants as answer
 use Rattle.wat_values.specs.declared.Reading.the-variants.{Refused, Absent, Text, Buffer}
 use Rattle.wat.specs.declared.Stop.the-variants as stop
@@ -21,22 +21,23 @@ use Rattle.wat.specs.Tokens.{Tok}
 use Rattle.wat.specs.Lexing.{Lexed}
 use Rattle.wat.specs.Calls.{Stands}
 use Rattle.wat.specs.Division.{Piece, lengths, Listing}
-use Rattle.wat_values.specs.Values.{Reader, Takes, Value, part, copy, absent, refused, Reads}
+use Rattle.wat_values.specs.Values.{Reader, Sigil, Takes, Value, part, copy, absent, refused, Reads}
 use Rattle.wat_values.specs.Names.{Misnamed}
 use Rattle.wat_values.specs.Reading.{There, own, needs, found, Handed, Read, Second}
-use Rattle.wat_values.specs.Readable.{bytesOf, filled, Yields, moved, Readable, HasSign, SignRead, WordRead, Passes}
+use Rattle.wat_values.specs.Readable.{bytesOf, filled, Yields, moved, Readable, YieldsName, NameRead, HasSign, SignRead}
+use Rattle.wat_values.specs.Readable.{WordRead, Passes}
 use Rattle.wat_values.specs.Integers.{Worded, ReadsWord}
 use Rattle.wat.proofs.Basics.{differ}
 use Rattle.wat_laws.proofs.Listings.{listed-whole}
 use Rattle.wat_values.proofs.OneValue.{reads-one}
 use Rattle.wat_values.proofs.SomeValue.{made, reads as reads-some}
 use Rattle.wat_values.proofs.Signs.{sign-one, sign-found}
-use Rattle.wat_values.proofs.OneReading.{read-one}
+use Rattle.wat_values.proofs.OneReading.{read-one, reads-name-one}
 use Rattle.wat_values.proofs.IntegerLaws.{worded-some}
 use Rattle.wat_values.proofs.ValueLengths.{needs-short}
 use Rattle.wat_values.proofs.ValueLaws.{Within, within}
 use Rattle.wat_values.proofs.ReadingLaws.{at-piece, is-token, token-long, is-there, is-alone, listed-stands, copy-taken}
-use Rattle.wat_values.proofs.ReadingLaws.{part-taken, refusal}
+use Rattle.wat_values.proofs.ReadingLaws.{part-taken, refusal, named-reads, name-found}
 
 hands-over : (text : List ℕ) (token : Token) (v : Value) (w buffer : List ℕ) → own text token ≡ w
     → token .offset ≤ length text → Within w v
@@ -75,6 +76,28 @@ token-readable {text = text} token start g l takes =
       there = λ buffer b. yields w buffer refl (is-there token start g l) k (v .1) (omega arith);
       alone = λ buffer b. yields w buffer same (is-alone token start g l) k (v .1) (omega arith);
       refuses = refusal (token .offset) (v .1);
+    }
+
+yields-name : {n : NameKind} {text : List ℕ} {token : Token} {v : Value} {x : ℕ} (buffer : List ℕ) → Sigil n (token .kind) x
+    → Reads Reader.name (token .kind) (own text token) v → Yields Reader.name text token v buffer → YieldsName n text token v buffer
+yields-name {n} {text} {token} {v} buffer s o y =
+    let f = name-found {n = n} (token .offset) o in
+    let r = subst (λ (r : Reading). Read Reader.name text token buffer r (filled v buffer)) (sym (f .1)) (y .answers) in
+    let a = named-reads s (f .2) r in
+    record { answer = f .0; is = f .1; whose = f .2; answers = a; only = λ b c z. reads-name-one z a }
+
+token-named : {σ : Settings} {n : NameKind} {text : List ℕ} {x : ℕ} (token : Token) → Stands text 0
+    → WellFormed (drop (token .offset) text) → Lexed σ (drop (token .offset) text) (answer.Token (token .kind) (token .len))
+    → Sigil n (token .kind) x → NameRead n text token
+token-named {text = text} token start g l s =
+    let w = own text token in
+    let k = is-token l in
+    let h = token-long l in
+    let same : own w (moved token) ≡ w = take-take (token .len) (token .len) (drop (token .offset) text) (omega arith) in
+    record {
+      there = λ r buffer b. yields-name buffer s r (yields w buffer refl (is-there token start g l) k r (omega arith));
+      alone = λ {v} r buffer b. yields-name buffer s (subst (λ (z : List ℕ). Reads Reader.name (token .kind) z v) (sym same) r)
+          (yields w buffer same (is-alone token start g l) k r (omega arith));
     }
 
 token-signed : {σ : Settings} {text : List ℕ} (token : Token) → Stands text 0 → WellFormed (drop (token .offset) text)
@@ -116,6 +139,9 @@ passes-readable x e =
       readable = λ us vs t q reader takes.
           let p = at-piece (start .between) (whole .divided) us vs t q in
           token-readable (record { kind = t .kind; offset = lengths us; len = t .len }) start (p .0) (p .1) takes;
+      named = λ us vs t q s.
+          let p = at-piece (start .between) (whole .divided) us vs t q in
+          token-named (record { kind = t .kind; offset = lengths us; len = t .len }) start (p .0) (p .1) s;
       signed = λ us vs t q h.
           let p = at-piece (start .between) (whole .divided) us vs t q in
           token-signed (record { kind = t .kind; offset = lengths us; len = t .len }) start (p .0) (p .1) h;

@@ -10,22 +10,25 @@ use lib.Seq.{length-take-le, take-append-seam, drop-drop, drop-append-seam}
 use Rattle.wat.specs.declared.{TokenKind.TokenKind, Token.Token, LexError.LexError, Refusal.Refusal, Refusal.the-variants.Lexical}
 use Rattle.wat.specs.declared.{Listed.Listed}
 use Rattle.wat.specs.declared.Answer.the-variants as answer
+use Rattle.wat_values.specs.declared.{NameKind.NameKind, NameReading.NameReading}
 use Rattle.wat_values.specs.declared.Reading.the-variants.{Refused, Text, Buffer}
+use Rattle.wat_values.specs.declared.NameReading.the-variants as name
 use Rattle.wat.specs.declared.Stop.the-variants as stop
 use Rattle.wat.specs.declared.Settings.{Settings}
+use Rattle.wat.specs.Bytes.{byte, has}
 use Rattle.wat.specs.Utf8.{WellFormed}
 use Rattle.wat.specs.Tokens.{Tok}
 use Rattle.wat.specs.Lexing.{Lexed}
 use Rattle.wat.specs.Calls.{most, Stands}
 use Rattle.wat.specs.Division.{Piece, lengths, Divided, Listing}
-use Rattle.wat_values.specs.Values.{Reader, Value, part, copy, absent, refused, Reads}
+use Rattle.wat_values.specs.Values.{Reader, Sigil, Value, part, copy, absent, refused, Name, Reads}
 use Rattle.wat_values.specs.Names.{Misnamed}
-use Rattle.wat_values.specs.Reading.{There, own, found, Second}
+use Rattle.wat_values.specs.Reading.{There, own, found, Read, ReadsName, readingOf, Whose, Second}
 use Rattle.wat.proofs.Basics.{differ}
 use Rattle.wat_laws.proofs.Answers.{lexed-lenient, lexed-alone}
 use Rattle.wat.proofs.Boundaries.{token-formed}
 use Rattle.wat_laws.proofs.Divisions.{token-size}
-use Rattle.wat_values.proofs.ValueLaws.{refused-misnamed, misnamed-refused, Inside}
+use Rattle.wat_values.proofs.ValueLaws.{left-given, refused-misnamed, misnamed-refused, Inside}
 
 -- ---- a token of a division
 
@@ -139,3 +142,30 @@ refusal {reader} {k} {w} {v} offset x r p = (to v x, from)
 
     from : (e : LexError) × (r ≡ Lexical e) × (p ≡ offset) × Misnamed reader w e → found offset v ≡ Refused r p
     from (e, q, o, m) = let z = misnamed-refused x m in ap (found offset) (z .1) ∙ cc
+
+-- ---- names
+
+-- what the reader of names answers, and whose name it is, the name call answers
+pub named-reads : {n : NameKind} {text buffer b : List ℕ} {token : Token} {x : ℕ} {a : NameReading} → Sigil n (token .kind) x
+    → Whose n a → Read Reader.name text token buffer (readingOf a) b → ReadsName text token buffer a b
+named-reads s Whose.no-name r = ReadsName.no-name r
+named-reads s Whose.in-text r = ReadsName.in-text s r
+named-reads s Whose.in-buffer r = ReadsName.in-buffer s r
+
+name-given : {n : NameKind} {w : List ℕ} {v : Value} → Name n w v → v ≡ absent → ⊥
+name-given (Name.word h) e = differ (cc)
+name-given Name.nothing e = differ (cc)
+name-given (Name.quoted {w = w} {v = v} {x = x} s h) e = left-given (has (byte "\\") w) 2 (x ∷ v) e
+name-given (Name.quoted-nothing s) e = differ (cc)
+name-given (Name.quoted-wrong s h) e = differ (cc)
+
+-- a name that is found, as an answer of the name call
+pub name-found : {n : NameKind} {k : TokenKind} {w : List ℕ} {v : Value} (offset : ℕ) → Reads Reader.name k w v
+    → (a : NameReading) × (readingOf a ≡ found offset v) × Whose n a
+name-found {n} {v = part i u} offset x = (name.Text n (offset + i) (length u), refl, Whose.in-text)
+name-found {n} {v = copy u} offset x = (name.Buffer n 0 (length u), refl, Whose.in-buffer)
+name-found {v = absent} offset x = absurd (given x refl)
+  where
+    given : {k : TokenKind} {w : List ℕ} {v : Value} → Reads Reader.name k w v → v ≡ absent → ⊥
+    given (Reads.a-name s n) e = name-given n e
+name-found {v = refused u e} offset x = (name.Refused (Lexical e) offset, refl, Whose.no-name)

@@ -32,7 +32,7 @@ use Rattle.wat.specs.RunModel.{body, walk}
 use Rattle.wat.specs.CommentModel.{opens, ends}
 use Rattle.wat.specs.LexModel.{family, count, word, whole, quotedKind, runKind, kindOf, hidden, comment, lex}
 use Rattle.wat.specs.Lexing.{Lexed}
-use Rattle.wat_values.specs.Values.{Reader, Value, part, absent, refused, copyOrPart, bare, Name, Split, Reads}
+use Rattle.wat_values.specs.Values.{Reader, Sigil, Value, part, absent, refused, copyOrPart, bare, Name, Split, Reads}
 use Rattle.wat_values.specs.declared.FloatPart.the-variants as the
 use Rattle.wat_values.specs.Values as reader
 use Rattle.wat.specs.Division.{Divided}
@@ -95,7 +95,7 @@ rows =
       settings = plain;
       text = bytes "$\"\"";
       answer = Token kind.Id 3;
-      reads = (reader.id, refused [] EmptyId) ∷ [];
+      reads = (reader.name, refused [] EmptyId) ∷ [];
     }
     ∷ row "\"\\u{d800}\"" (Fault (fault (InvalidUnicodeValue 0xD800) 7 8))
     ∷ row "\"\\u{1_}\"" (Fault (fault LoneUnderscore 5 6))
@@ -161,8 +161,8 @@ power-reads : Leaves plain (Token float 4) (bytes "1.e5")
 unfolding copyOrPart bare digit between marks has power five
 power-reads = (Reads.an-integral power, (Reads.an-exponent power Signed.unsigned (Digits.last refl), tt))
 
-nothing-read : Leaves plain (Token kind.Id 3) (bytes "$\"\"") ((reader.id, refused [] EmptyId) ∷ [])
-nothing-read = (Reads.an-id (Name.quoted-nothing (Str.quoted Elems.none)), tt)
+nothing-read : Leaves plain (Token kind.Id 3) (bytes "$\"\"") ((reader.name, refused [] EmptyId) ∷ [])
+nothing-read = (Reads.a-name Sigil.id (Name.quoted-nothing (Str.quoted Elems.none)), tt)
 
 -- of the last rows nothing is read
 unread : All LeavesOf (drop 12 rows)

@@ -11,8 +11,6 @@ use Rattle.wat.specs.declared.FloatKind.the-variants as float-kind
 use Rattle.wat.specs.declared.TokenKind.{TokenKind}
 use Rattle.wat.specs.declared.TokenKind.the-variants as kind
 use Rattle.wat.specs.declared.Number.{Number}
-use Rattle.wat.specs.declared.LexError.{LexError}
-use Rattle.wat.specs.declared.LexError.the-variants.{EmptyId, EmptyAnnotation}
 use Rattle.wat.specs.declared.Checked.{Checked}
 use Rattle.wat.specs.declared.Checked.the-variants.{Ok, Bad}
 use Rattle.wat.specs.Bytes.{byte, has, Each}
@@ -23,9 +21,9 @@ use Rattle.wat.specs.Numbers.{prefix, inf, nan, nan-colon, negative, Digits, Si
 use Rattle.wat.specs.Chars.{idchar}
 use Rattle.wat.specs.Strings.{Str}
 use Rattle.wat.specs.Tokens.{Proper, Tok, numberKind}
-use Rattle.wat_values.specs.declared.FloatPart.{FloatPart}
+use Rattle.wat_values.specs.declared.{NameKind.NameKind, FloatPart.FloatPart}
 use Rattle.wat_values.specs.declared.FloatPart.the-variants as the
-use Rattle.wat_values.specs.Values.{Reader, Takes, Value, Name, Split, Reads}
+use Rattle.wat_values.specs.Values.{Reader, Sigil, Takes, Value, Name, Split, Reads}
 use Rattle.wat.proofs.Utf8Laws.{checked-says}
 use Rattle.wat.proofs.Basics.{differ}
 
@@ -33,8 +31,8 @@ use Rattle.wat.proofs.Basics.{differ}
 abbrev pub Quoted : List ℕ → Type 0
 Quoted w = (v : List ℕ) × Str lenient w v
 
-abbrev pub Sigil : ℕ → List ℕ → Type 0
-Sigil x w = (t : List ℕ) × (w ≡ x ∷ t) × (Each idchar true t ⊎ Quoted t)
+abbrev Named : ℕ → List ℕ → Type 0
+Named x w = (t : List ℕ) × (w ≡ x ∷ t) × (Each idchar true t ⊎ Quoted t)
 
 -- a sign, which is a minus or not as n says, and a word
 pub record SignedWord (n : Bool) (word w : List ℕ) : Type 0 where
@@ -58,9 +56,9 @@ Made kind.Whitespace w = Unit {0}
 Made kind.LParen w = Unit {0}
 Made kind.RParen w = Unit {0}
 Made kind.String w = Quoted w
-Made kind.Id w = Sigil (byte "$") w
+Made kind.Id w = Named (byte "$") w
 Made kind.Keyword w = Unit {0}
-Made kind.Annotation w = Sigil (byte "@") w
+Made kind.Annotation w = Named (byte "@") w
 Made kind.Reserved w = Unit {0}
 Made (kind.Integer i) w = IsInteger (i .sign) (i .hex) w × (i .underscores ≡ has (byte "_") w)
 Made (kind.Float f) w = MadeFloat f w
@@ -95,6 +93,11 @@ made (Tok.proper (Proper.keyword l e n)) = tt
 made (Tok.reserved r n) = tt
 made (Tok.single p) = tt
 
+-- a token that has a name is the sigil and a word or a string
+named : {n : NameKind} {k : TokenKind} {x : ℕ} {w : List ℕ} → Sigil n k x → Tok k w → Named x w
+named Sigil.id t = made t
+named Sigil.annotation t = made t
+
 -- no kind is an integer's and a float's
 pub kinds-apart : {k : TokenKind} {i : IntegerKind} {f : FloatKind} → k ≡ kind.Integer i → k ≡ kind.Float f → ⊥
 kinds-apart {i = i} {f = f} e q = let z : kind.Integer i ≡ kind.Float f = sym e ∙ q in differ (cc)
@@ -112,15 +115,15 @@ pub integer-split : {sign : Sign} {hex : Bool} {w : List ℕ} → IsInteger sign
 integer-split (IsInteger.integer g d) =
     (_, _, record { signed = g; whole = d; after = Fraction.none; power = Exponent.none; is = rw append-nil refl })
 
-name-of : (e : LexError) (w : List ℕ) → Each idchar true w ⊎ Quoted w → (v : Value) × Name e w v
-name-of e [] (inl h) = (_, Name.nothing)
-name-of e (x ∷ w) (inl h) = (_, Name.word h)
-name-of e w (inr q) = go (q .0) (q .1) (checked (q .0)) (checked-says (q .0))
+name-of : (n : NameKind) (w : List ℕ) → Each idchar true w ⊎ Quoted w → (v : Value) × Name n w v
+name-of n [] (inl h) = (_, Name.nothing)
+name-of n (x ∷ w) (inl h) = (_, Name.word h)
+name-of n w (inr q) = go (q .0) (q .1) (checked (q .0)) (checked-says (q .0))
   where
-    go : (v : List ℕ) → Str lenient w v → (c : Checked) → Says v c → (r : Value) × Name e w r
+    go : (v : List ℕ) → Str lenient w v → (c : Checked) → Says v c → (r : Value) × Name n w r
     go [] s c h = (_, Name.quoted-nothing s)
     go (x ∷ v) s Ok h = (_, Name.quoted s h)
-    go (x ∷ v) s (Bad n l) h = (_, Name.quoted-wrong s h)
+    go (x ∷ v) s (Bad m l) h = (_, Name.quoted-wrong s h)
 
 fraction-value : {c h : Bool} {sign : Sign} {w u p f e : List ℕ} → Fraction h f → Split h w sign u p f e
     → (v : Value) × Reads (Reader.float the.Fraction) (kind.Float (float-kind.Normal c h)) w v
@@ -149,13 +152,9 @@ float-value the.Payload (float-kind.Normal c h) w m = (_, Reads.of-normal)
 pub reads : {r : Reader} {k : TokenKind} {w : List ℕ} → Tok k w → Takes r k → (v : Value) × Reads r k w v
 reads t Takes.any = (_, Reads.itself)
 reads t Takes.a-string = let m = made t in (_, Reads.a-string (m .1))
-reads {w = w} t Takes.an-id =
-    let m = made t in
-    let n = name-of EmptyId (m .0) (m .2) in
-    (n .0, subst (λ (z : List ℕ). Reads Reader.id kind.Id z (n .0)) (sym (m .1)) (Reads.an-id (n .1)))
-reads {w = w} t Takes.an-annotation =
-    let m = made t in
-    let n = name-of EmptyAnnotation (m .0) (m .2) in
-    (n .0, subst (λ (z : List ℕ). Reads Reader.annotation kind.Annotation z (n .0)) (sym (m .1)) (Reads.an-annotation (n .1)))
+reads t (Takes.a-name {n = n} {k = k} s) =
+    let m = named s t in
+    let v = name-of n (m .0) (m .2) in
+    (v .0, subst (λ (z : List ℕ). Reads Reader.name k z (v .0)) (sym (m .1)) (Reads.a-name s (v .1)))
 reads t Takes.an-integer = (_, Reads.an-integer (integer-split (made t .0) .2))
 reads {w = w} t (Takes.a-float {p = p} {f = f}) = float-value p f w (made t)

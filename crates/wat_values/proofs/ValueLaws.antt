@@ -19,8 +19,9 @@ use Rattle.wat.specs.Chars.{idchar}
 use Rattle.wat.specs.Numbers.{prefix, nan-colon, Signed}
 use Rattle.wat.specs.Strings.{Elem, Elems, Str}
 use Rattle.wat.specs.Tokens.{Tok}
-use Rattle.wat_values.specs.Values.{Reader, Value, part, copy, absent, refused, copyOrPart, bare, dropped, kept, Name}
-use Rattle.wat_values.specs.Values.{Split, Reads}
+use Rattle.wat_values.specs.declared.NameKind.{NameKind}
+use Rattle.wat_values.specs.Values.{Reader, Sigil, emptyName, Value, part, copy, absent, refused, copyOrPart, bare}
+use Rattle.wat_values.specs.Values.{dropped, kept, Name, Split, Reads}
 use Rattle.wat_values.specs.Names.{Names, Misnamed}
 use Rattle.wat.proofs.Numbers.Parts.{has-append}
 use Rattle.wat.proofs.Scalars.{ascii}
@@ -30,40 +31,44 @@ use Rattle.wat_laws.proofs.OneCall.{not-both}
 use Rattle.wat_values.proofs.OneValue.{name-one}
 use Rattle.wat_values.proofs.SomeValue.{made}
 
-left-passes : (c : Bool) (n : ℕ) (v u : List ℕ) (e : LexError) → copyOrPart c n v ≡ refused u e → ⊥
+-- what is left where it is, or copied, is neither absent nor refused
+abbrev Given : Value → Type 0
+Given (part n v) = Unit {0}
+Given (copy v) = Unit {0}
+Given absent = ⊥
+Given (refused v e) = ⊥
+
+pub left-given : (c : Bool) (n : ℕ) (v : List ℕ) {w : Value} → copyOrPart c n v ≡ w → Given w
 unfolding copyOrPart
-left-passes true n v u e q = differ (cc)
-left-passes false n v u e q = differ (cc)
+left-given true n v q = subst Given q tt
+left-given false n v q = subst Given q tt
 
 -- a name that is refused is empty or not UTF-8
-name-wrong : (P : LexError → Type 0) (x : ℕ) {none : LexError} {w : List ℕ} {v : Value} (u : List ℕ) (e : LexError)
-    → (Names (x ∷ w) [] → P none)
-    → ((name : List ℕ) (n l : ℕ) → Names (x ∷ w) name → Says name (Bad n l) → P (InvalidUtf8Id n l)) → Name none w v
+name-wrong : (P : LexError → Type 0) (x : ℕ) {whose : NameKind} {w : List ℕ} {v : Value} (u : List ℕ) (e : LexError)
+    → (Names (x ∷ w) [] → P (emptyName whose))
+    → ((name : List ℕ) (n l : ℕ) → Names (x ∷ w) name → Says name (Bad n l) → P (InvalidUtf8Id n l)) → Name whose w v
     → v ≡ refused u e → P e
 name-wrong P x u e f g (Name.word h) q = differ (cc)
-name-wrong P x {none} u e f g Name.nothing q = let z : none ≡ e = cc in subst P z (f (Names.word Each.none))
-name-wrong P x u e f g (Name.quoted {w = w} {v = v} {x = y} s h) q = absurd (left-passes (has 0x5C w) 2 (y ∷ v) u e q)
-name-wrong P x {none} u e f g (Name.quoted-nothing s) q = let z : none ≡ e = cc in subst P z (f (Names.quoted s))
+name-wrong P x {whose} u e f g Name.nothing q = let z : emptyName whose ≡ e = cc in subst P z (f (Names.word Each.none))
+name-wrong P x u e f g (Name.quoted {w = w} {v = v} {x = y} s h) q = absurd (left-given (has 0x5C w) 2 (y ∷ v) q)
+name-wrong P x {whose} u e f g (Name.quoted-nothing s) q = let z : emptyName whose ≡ e = cc in subst P z (f (Names.quoted s))
 name-wrong P x u e f g (Name.quoted-wrong {v = v} {n = n} {l = l} s h) q = let z : InvalidUtf8Id n l ≡ e = cc in
     subst P z (g v n l (Names.quoted s) h)
 
 pub refused-misnamed : {r : Reader} {k : TokenKind} {w : List ℕ} {v : Value} (u : List ℕ) (e : LexError) → Reads r k w v
     → v ≡ refused u e → Misnamed r w e
 refused-misnamed u e Reads.itself q = differ (cc)
-refused-misnamed u e (Reads.a-string {w = w} {v = v} s) q = absurd (left-passes (has 0x5C w) 1 v u e q)
-refused-misnamed u e (Reads.an-id {w = w} n) q =
-    name-wrong (Misnamed Reader.id (0x24 ∷ w)) 0x24 u e (λ m. Misnamed.empty-id m) (λ name i l m h. Misnamed.wrong-id m h) n q
-refused-misnamed u e (Reads.an-annotation {w = w} n) q =
-    name-wrong (Misnamed Reader.annotation (0x40 ∷ w)) 0x40 u e (λ m. Misnamed.empty-annotation m)
-    (λ name i l m h. Misnamed.wrong-annotation m h) n q
-refused-misnamed u e (Reads.an-integer x) q = absurd (left-passes _ _ _ u e q)
-refused-misnamed u e (Reads.an-integral x) q = absurd (left-passes _ _ _ u e q)
+refused-misnamed u e (Reads.a-string {w = w} {v = v} s) q = absurd (left-given (has 0x5C w) 1 v q)
+refused-misnamed u e (Reads.a-name {x = x} {w = w} s n) q =
+    name-wrong (Misnamed Reader.name (x ∷ w)) x u e (λ m. Misnamed.empty s m) (λ name i l m h. Misnamed.wrong m h) n q
+refused-misnamed u e (Reads.an-integer x) q = absurd (left-given _ _ _ q)
+refused-misnamed u e (Reads.an-integral x) q = absurd (left-given _ _ _ q)
 refused-misnamed u e (Reads.no-fraction x) q = differ (cc)
 refused-misnamed u e (Reads.only-dot x) q = differ (cc)
-refused-misnamed u e (Reads.a-fraction x d) q = absurd (left-passes _ _ _ u e q)
+refused-misnamed u e (Reads.a-fraction x d) q = absurd (left-given _ _ _ q)
 refused-misnamed u e (Reads.no-exponent x) q = differ (cc)
-refused-misnamed u e (Reads.an-exponent x g d) q = absurd (left-passes _ _ _ u e q)
-refused-misnamed u e (Reads.a-payload g d i) q = absurd (left-passes _ _ _ u e q)
+refused-misnamed u e (Reads.an-exponent x g d) q = absurd (left-given _ _ _ q)
+refused-misnamed u e (Reads.a-payload g d i) q = absurd (left-given _ _ _ q)
 refused-misnamed u e Reads.of-inf q = differ (cc)
 refused-misnamed u e Reads.of-nan q = differ (cc)
 refused-misnamed u e (Reads.of-payload n) q = differ (cc)
@@ -74,21 +79,27 @@ word-formed : {w : List ℕ} → Each idchar true w → WellFormed w
 word-formed Each.none = WellFormed.empty
 word-formed (Each.next {x = x} e r) = WellFormed.more (ascii x (idchar-ascii x e)) (word-formed r)
 
-name-empty : {none : LexError} (x : ℕ) (w : List ℕ) → Names (x ∷ w) [] → Name none w (refused [] none)
+name-empty : {whose : NameKind} (x : ℕ) (w : List ℕ) → Names (x ∷ w) [] → Name whose w (refused [] (emptyName whose))
 name-empty x w (Names.word h) = Name.nothing
 name-empty x w (Names.quoted s) = Name.quoted-nothing s
 
-name-bad : {none : LexError} {name : List ℕ} {n l : ℕ} (x : ℕ) (w : List ℕ) → Names (x ∷ w) name → Says name (Bad n l)
-    → (u : List ℕ) × Name none w (refused u (InvalidUtf8Id n l))
+name-bad : {whose : NameKind} {name : List ℕ} {n l : ℕ} (x : ℕ) (w : List ℕ) → Names (x ∷ w) name → Says name (Bad n l)
+    → (u : List ℕ) × Name whose w (refused u (InvalidUtf8Id n l))
 name-bad x w (Names.word h) b = absurd (not-both b (word-formed h))
 name-bad x w (Names.quoted s) b = (_, Name.quoted-wrong s b)
 
+-- the byte before a name tells whose it is
+sigil-tells : {n m : NameKind} {k j : TokenKind} {x y : ℕ} → Sigil n k x → Sigil m j y → x ≡ y → n ≡ m
+sigil-tells Sigil.id Sigil.id e = refl
+sigil-tells Sigil.id Sigil.annotation e = absurd (omega arith)
+sigil-tells Sigil.annotation Sigil.id e = absurd (omega arith)
+sigil-tells Sigil.annotation Sigil.annotation e = refl
+
 pub misnamed-refused : {r : Reader} {k : TokenKind} {w : List ℕ} {v : Value} {e : LexError} → Reads r k w v → Misnamed r w e
     → (u : List ℕ) × (v ≡ refused u e)
-misnamed-refused (Reads.an-id {w = w} n) (Misnamed.empty-id m) = (_, name-one n (name-empty 0x24 w m))
-misnamed-refused (Reads.an-id {w = w} n) (Misnamed.wrong-id m b) = let z = name-bad 0x24 w m b in (z .0, name-one n (z .1))
-misnamed-refused (Reads.an-annotation {w = w} n) (Misnamed.empty-annotation m) = (_, name-one n (name-empty 0x40 w m))
-misnamed-refused (Reads.an-annotation {w = w} n) (Misnamed.wrong-annotation m b) = let z = name-bad 0x40 w m b in (z .0, name-one n (z .1))
+misnamed-refused (Reads.a-name {x = x} {w = w} s n) (Misnamed.empty t m) =
+    ([], name-one n (name-empty x w m) ∙ ap (λ (o : NameKind). refused [] (emptyName o)) (sigil-tells s t refl))
+misnamed-refused (Reads.a-name {x = x} {w = w} s n) (Misnamed.wrong m b) = let z = name-bad x w m b in (z .0, name-one n (z .1))
 
 -- ---- a part that is not copied stands in the token
 
@@ -130,7 +141,7 @@ unfolding has
 str-raw (Str.quoted {s = s} {v = v} p) e =
     ap (λ (z : List ℕ). 0x22 ∷ (z ++ (0x22 ∷ []))) (elems-raw p (has-parts 0x5C s (0x22 ∷ []) e .0))
 
-name-within : {none : LexError} {w : List ℕ} {v : Value} (x : ℕ) → Name none w v → Within (x ∷ w) v
+name-within : {whose : NameKind} {w : List ℕ} {v : Value} (x : ℕ) → Name whose w v → Within (x ∷ w) v
 name-within x (Name.word {x = y} {w = w} h) =
     record { before = x ∷ []; after = []; split = ap (λ (z : List ℕ). x ∷ z) (sym (append-nil (y ∷ w))); long = refl }
 name-within x Name.nothing = tt
@@ -230,8 +241,7 @@ pub within : {r : Reader} {k : TokenKind} {w : List ℕ} {v : Value} → Tok k w
 within {w = w} t Reads.itself = record { before = []; after = []; split = sym (append-nil w); long = refl }
 within t (Reads.a-string {w = w} {v = v} q) =
     left-within (has 0x5C w) 1 v (λ e. record { before = 0x22 ∷ []; after = 0x22 ∷ []; split = str-raw q e; long = refl })
-within t (Reads.an-id n) = name-within 0x24 n
-within t (Reads.an-annotation n) = name-within 0x40 n
+within t (Reads.a-name {x = x} s n) = name-within x n
 within t (Reads.an-integer {i = i} x) = whole-within x (i .underscores) (made t .1)
 within t (Reads.an-integral {c = c} x) = whole-within x c (made t .1)
 within t (Reads.no-fraction x) = tt

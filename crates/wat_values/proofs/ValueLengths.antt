@@ -8,11 +8,11 @@ use lib.Dec.{eqb}
 use lib.ListN.{length, length-append}
 use Rattle.wat.specs.declared.Sign.{Sign}
 use Rattle.wat.specs.declared.TokenKind.{TokenKind}
-use Rattle.wat.specs.declared.LexError.{LexError}
 use Rattle.wat.specs.Bytes.{byte, has}
 use Rattle.wat.specs.declared.Settings.{Settings}
 use Rattle.wat.specs.Numbers.{prefix, nan-colon, Signed}
 use Rattle.wat.specs.Strings.{Elem, Elems, Str}
+use Rattle.wat_values.specs.declared.NameKind.{NameKind}
 use Rattle.wat_values.specs.Values.{Reader, Value, copyOrPart, copied, bare, kept, Name}
 use Rattle.wat_values.specs.Values.{Split, Reads}
 use Rattle.wat_values.specs.Reading.{needs}
@@ -83,7 +83,7 @@ signed-short : {sign : Sign} {u : List ℕ} (w : List ℕ) (c : Bool) (n : ℕ) 
     → length (needs (copyOrPart c n (kept sign ++ bare s))) ≤ length w
 signed-short {sign} w c n s g h = omega (arith, left-short c n (kept sign ++ bare s), number-short s g)
 
-name-short : {e : LexError} {w : List ℕ} {v : Value} → Name e w v → length (needs v) ≤ length w
+name-short : {n : NameKind} {w : List ℕ} {v : Value} → Name n w v → length (needs v) ≤ length w
 name-short (Name.word h) = omega arith
 name-short Name.nothing = omega arith
 name-short (Name.quoted {w = w} {v = v} {x = x} q h) = omega (arith, left-short (has 0x5C w) 2 (x ∷ v), str-short q)
@@ -93,8 +93,7 @@ name-short (Name.quoted-wrong {w = w} {v = v} q h) = omega (arith, copied-short 
 pub needs-short : {r : Reader} {k : TokenKind} {w : List ℕ} {v : Value} → Reads r k w v → length (needs v) ≤ length w
 needs-short Reads.itself = omega arith
 needs-short (Reads.a-string {w = w} {v = v} q) = omega (arith, left-short (has 0x5C w) 1 v, str-short q)
-needs-short (Reads.an-id n) = omega (arith, name-short n)
-needs-short (Reads.an-annotation n) = omega (arith, name-short n)
+needs-short (Reads.a-name s n) = omega (arith, name-short n)
 needs-short {w = w} (Reads.an-integer {p = p} x) = signed-short w _ _ p (x .signed) (omega (arith, split-long x))
 needs-short {w = w} (Reads.an-integral {p = p} x) = signed-short w _ _ p (x .signed) (omega (arith, split-long x))
 needs-short (Reads.no-fraction x) = omega arith

@@ -1,7 +1,8 @@
 -- What passes can be read: a text that the listing carries from byte 0 to its end is divided in one way only, and each
 -- of its tokens, handed to its reader with a buffer no shorter than itself, yields the value of the definitions, and to
--- the sign call its sign. The one refusal left is a name that is empty or not UTF-8. The value call of an integer
--- yields its word, or 40 where it is out of range. `Passes` says it; it is proved as `passes-readable`.
+-- the sign call its sign. The one refusal left is a name that is empty or not UTF-8. The name call says whose name it
+-- is. The value call of an integer yields its word, or 40 where it is out of range. `Passes` says it; it is proved as
+-- `passes-readable`.
 use Prim.Native.Nat.{ℕ, _≤_}
 use mathlib.Core.Path.{_≡_}
 use mathlib.Core.Logic.{_↔_}
@@ -13,17 +14,18 @@ use Rattle.wat.specs.declared.{Token.Token, LexError.LexError, Refusal.Refusal,
 use Rattle.wat.specs.declared.{Settings.Settings, Listed.Listed}
 use Rattle.wat.specs.declared.TokenKind.the-variants as kind
 use Rattle.wat.specs.declared.FloatKind.the-variants.{Inf, Nan, NanVal}
-use Rattle.wat_values.specs.declared.{Reading.Reading, IntegerSign.IntegerSign, FloatSign.FloatSign}
-use Rattle.wat_values.specs.declared.IntegerValue.{IntegerValue}
+use Rattle.wat_values.specs.declared.{Reading.Reading, NameKind.NameKind, NameReading.NameReading}
+use Rattle.wat_values.specs.declared.{IntegerSign.IntegerSign, FloatSign.FloatSign, IntegerValue.IntegerValue}
 use Rattle.wat_values.specs.declared.Reading.the-variants.{Refused}
 use Rattle.wat_values.specs.declared.IntegerSign.the-variants as integer
 use Rattle.wat_values.specs.declared.FloatSign.the-variants as float
 use Rattle.wat.specs.Numbers.{Digits, Signed, negative, inf, nan, nan-colon}
 use Rattle.wat.specs.Division.{Piece, lengths}
 use Rattle.wat.specs.Whole.{Whole}
-use Rattle.wat_values.specs.Values.{Reader, Takes, Value, part, copy, absent, refused, Split, Reads}
+use Rattle.wat_values.specs.Values.{Reader, Sigil, Takes, Value, part, copy, absent, refused, Split, Reads}
 use Rattle.wat_values.specs.Names.{Misnamed}
-use Rattle.wat_values.specs.Reading.{own, needs, found, Read, Second, ReadsSign, ReadsNegative}
+use Rattle.wat_values.specs.Reading.{own, needs, found, Read, ReadsName, readingOf, Whose, Second, ReadsSign}
+use Rattle.wat_values.specs.Reading.{ReadsNegative}
 use Rattle.wat_values.specs.Integers.{Worded, ReadsWord}
 
 -- ---- values
@@ -68,6 +70,26 @@ pub record Readable (reader : Reader) (text : List ℕ) (token : Token) : Type 0
   pub refuses : (r : Refusal) (p : ℕ)
       → (found (token .offset) value ≡ Refused r p)
       ↔ ((e : LexError) × (r ≡ Lexical e) × (p ≡ token .offset) × Misnamed reader (own text token) e)
+
+-- ---- names
+
+-- the name call yields the value v of a token whose name is the kind's
+pub record YieldsName (n : NameKind) (text : List ℕ) (token : Token) (v : Value) (buffer : List ℕ) : Type 0 where
+  pub answer : NameReading
+  -- it answers as the reader of names does, and says whose name it is
+  pub is : readingOf answer ≡ found (token .offset) v
+  pub whose : Whose n answer
+  pub answers : ReadsName text token buffer answer (filled v buffer)
+  -- it has no other answer, and leaves no other buffer
+  pub only : (a : NameReading) (b : List ℕ) → ReadsName text token buffer a b → (a ≡ answer) × (b ≡ filled v buffer)
+
+-- with each buffer that is no shorter than the token the name call yields the value that the definitions give its own
+-- bytes, in the text and where the text is these bytes alone
+pub record NameRead (n : NameKind) (text : List ℕ) (token : Token) : Type 0 where
+  pub there : {v : Value} → Reads Reader.name (token .kind) (own text token) v → (buffer : List ℕ)
+      → token .len ≤ length buffer → YieldsName n text token v buffer
+  pub alone : {v : Value} → Reads Reader.name (token .kind) (own text token) v → (buffer : List ℕ)
+      → token .len ≤ length buffer → YieldsName n (own text token) (moved token) v buffer
 
 -- ---- signs
 
@@ -122,6 +144,9 @@ pub record Passes (σ : Settings) (text list : List ℕ) (r : Listed) (l : List 
   -- each of these tokens, whose offset is the lengths before it, can be read by each reader that takes its kind
   pub readable : (us vs : List Piece) (t : Piece) → whole .tokens ≡ us ++ (t ∷ vs) → (reader : Reader)
       → Takes reader (t .kind) → Readable reader text (record { kind = t .kind; offset = lengths us; len = t .len })
+  -- and of each that has a name the name call says it, and whose it is
+  pub named : (us vs : List Piece) (t : Piece) → whole .tokens ≡ us ++ (t ∷ vs) → {n : NameKind} {x : ℕ}
+      → Sigil n (t .kind) x → NameRead n text (record { kind = t .kind; offset = lengths us; len = t .len })
   -- and of each that has a sign the sign is read
   pub signed : (us vs : List Piece) (t : Piece) → whole .tokens ≡ us ++ (t ∷ vs) → HasSign (t .kind)
       → SignRead text (record { kind = t .kind; offset = lengths us; len = t .len })

@@ -4,16 +4,18 @@ use mathlib.Core.Path.{_≡_}
 use mathlib.Core.List.{List, [], _++_}
 use lib.ListN.{length, take, drop}
 use Rattle.wat.specs.declared.{IntegerKind.IntegerKind, FloatKind.FloatKind, Token.Token, Refusal.Refusal}
-use Rattle.wat_values.specs.declared.{Reading.Reading, IntegerSign.IntegerSign, FloatSign.FloatSign}
+use Rattle.wat_values.specs.declared.{Reading.Reading, NameKind.NameKind, NameReading.NameReading}
+use Rattle.wat_values.specs.declared.{IntegerSign.IntegerSign, FloatSign.FloatSign}
 use Rattle.wat.specs.declared.TokenKind.the-variants as kind
 use Rattle.wat.specs.declared.FloatKind.the-variants.{Inf, Nan, NanVal, Normal}
 use Rattle.wat.specs.declared.Answer.the-variants as answer
 use Rattle.wat.specs.declared.Refusal.the-variants.{Lexical, NotThatToken, NotThatKind, BufferTooShort}
 use Rattle.wat_values.specs.declared.Reading.the-variants.{Refused, Absent, Text, Buffer}
+use Rattle.wat_values.specs.declared.NameReading.the-variants as name
 use Rattle.wat_values.specs.declared.IntegerSign.the-variants as integer
 use Rattle.wat_values.specs.declared.FloatSign.the-variants as float
 use Rattle.wat.specs.{Settings.lenient, Lexing.Lexed, Calls.Stands, Calls.Rejected}
-use Rattle.wat_values.specs.Values.{Reader, Takes, Value, part, copy, absent, refused, Reads}
+use Rattle.wat_values.specs.Values.{Reader, Sigil, Takes, Value, part, copy, absent, refused, Reads}
 
 -- the token is there: lexing at its offset, leniently, gives that kind and length
 pub record There (text : List ℕ) (token : Token) : Type 0 where
@@ -60,6 +62,29 @@ pub data Read (reader : Reader) (text : List ℕ) (token : Token) (buffer : List
   reads : {v : Value} {a : Reading} {b : List ℕ} → There text token → Reads reader (token .kind) (own text token) v
       → Handed (token .offset) v buffer a b
       → Read reader text token buffer a b
+
+-- the name call: what the reader of names answers and leaves, and with a name which of the two tokens has it
+pub data ReadsName (text : List ℕ) (token : Token) (buffer : List ℕ) : NameReading → List ℕ → Type 0 where
+  no-name : {r : Refusal} {p : ℕ} {b : List ℕ} → Read Reader.name text token buffer (Refused r p) b
+      → ReadsName text token buffer (name.Refused r p) b
+  in-text : {n : NameKind} {x start len : ℕ} {b : List ℕ} → Sigil n (token .kind) x
+      → Read Reader.name text token buffer (Text start len) b
+      → ReadsName text token buffer (name.Text n start len) b
+  in-buffer : {n : NameKind} {x start len : ℕ} {b : List ℕ} → Sigil n (token .kind) x
+      → Read Reader.name text token buffer (Buffer start len) b
+      → ReadsName text token buffer (name.Buffer n start len) b
+
+-- its answer as another reader's, which the second call takes
+abbrev pub readingOf : NameReading → Reading
+readingOf (name.Refused r p) = Refused r p
+readingOf (name.Text n start len) = Text start len
+readingOf (name.Buffer n start len) = Buffer start len
+
+-- an answer of the name call says that a name is the kind's; a refusal says nothing
+pub data Whose (n : NameKind) : NameReading → Type 0 where
+  no-name : {r : Refusal} {p : ℕ} → Whose n (name.Refused r p)
+  in-text : {start len : ℕ} → Whose n (name.Text n start len)
+  in-buffer : {start len : ℕ} → Whose n (name.Buffer n start len)
 
 -- the second call: the part that an answer names, if it lies in the text, or in the buffer; else none
 pub data Second (text buffer : List ℕ) : Reading → List ℕ → Type 0 where

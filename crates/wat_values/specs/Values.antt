@@ -7,7 +7,8 @@ use lib.ListN.{length}
 use lib.Dec.{eqb}
 use Rattle.wat.specs.declared.{Sign.Sign, IntegerKind.IntegerKind, FloatKind.FloatKind}
 use Rattle.wat.specs.declared.{TokenKind.TokenKind, LexError.LexError}
-use Rattle.wat_values.specs.declared.FloatPart.{FloatPart}
+use Rattle.wat_values.specs.declared.{NameKind.NameKind, FloatPart.FloatPart}
+use Rattle.wat_values.specs.declared.NameKind.the-variants as name-of
 use Rattle.wat_values.specs.declared.FloatPart.the-variants as the
 use Rattle.wat.specs.declared.Sign.the-variants.{Unsigned, Plus, Minus}
 use Rattle.wat.specs.declared.FloatKind.the-variants.{Inf, Nan, NanVal, Normal}
@@ -19,15 +20,24 @@ use Rattle.wat.specs.{Settings.lenient, Utf8.Says, Chars.idchar, Strings.Str}
 use Rattle.wat.specs.Numbers.{prefix, nan-colon, Digits, Signed, Fraction, Exponent}
 
 pub data Reader : Type 0 where
-  src string id annotation digits : Reader
+  src string name digits : Reader
   float : FloatPart → Reader
+
+-- the tokens that have a name: their kind, and the byte before the name
+pub data Sigil : NameKind → TokenKind → ℕ → Type 0 where
+  id : Sigil name-of.Id kind.Id (byte "$")
+  annotation : Sigil name-of.Annotation kind.Annotation (byte "@")
+
+-- the error of a name that is empty: 23, 24
+abbrev pub emptyName : NameKind → LexError
+emptyName name-of.Id = EmptyId
+emptyName name-of.Annotation = EmptyAnnotation
 
 -- the kinds that a reader takes; 31 for the others
 pub data Takes : Reader → TokenKind → Type 0 where
   any : {k : TokenKind} → Takes src k
   a-string : Takes string kind.String
-  an-id : Takes id kind.Id
-  an-annotation : Takes annotation kind.Annotation
+  a-name : {n : NameKind} {k : TokenKind} {x : ℕ} → Sigil n k x → Takes name k
   an-integer : {i : IntegerKind} → Takes digits (kind.Integer i)
   a-float : {p : FloatPart} {f : FloatKind} → Takes (float p) (kind.Float f)
 
@@ -66,15 +76,15 @@ kept Unsigned = []
 kept Plus = []
 kept Minus = bytes "-"
 
--- a name after its `$` or `@`: not empty (23, 24: the error e), and UTF-8 if quoted (22); copied if it has an escape
-pub data Name (e : LexError) : List ℕ → Value → Type 0 where
-  word : {x : ℕ} {w : List ℕ} → Each idchar true (x ∷ w) → Name e (x ∷ w) (part 1 (x ∷ w))
-  nothing : Name e [] (refused [] e)
+-- a name after its `$` or `@`: not empty (23, 24), and UTF-8 if quoted (22); copied if it has an escape
+pub data Name (whose : NameKind) : List ℕ → Value → Type 0 where
+  word : {x : ℕ} {w : List ℕ} → Each idchar true (x ∷ w) → Name whose (x ∷ w) (part 1 (x ∷ w))
+  nothing : Name whose [] (refused [] (emptyName whose))
   quoted : {w v : List ℕ} {x : ℕ} → Str lenient w (x ∷ v) → Says (x ∷ v) Ok
-      → Name e w (copyOrPart (has (byte "\\") w) 2 (x ∷ v))
-  quoted-nothing : {w : List ℕ} → Str lenient w [] → Name e w (refused [] e)
+      → Name whose w (copyOrPart (has (byte "\\") w) 2 (x ∷ v))
+  quoted-nothing : {w : List ℕ} → Str lenient w [] → Name whose w (refused [] (emptyName whose))
   quoted-wrong : {w v : List ℕ} {n l : ℕ} → Str lenient w v → Says v (Bad n l)
-      → Name e w (refused (copied (has (byte "\\") w) v) (InvalidUtf8Id n l))
+      → Name whose w (refused (copied (has (byte "\\") w) v) (InvalidUtf8Id n l))
 
 -- a number's bytes w in parts: the sign's bytes u, 0x if it is hexadecimal, the digits p before the point, the fraction
 -- f with its dot, the exponent e with its mark and sign. `-0x1_0.8p+3` has `-`, `1_0`, `.8` and `p+3`
@@ -90,9 +100,8 @@ pub record Split (hex : Bool) (w : List ℕ) (sign : Sign) (u p f e : List ℕ) 
 pub data Reads : Reader → TokenKind → List ℕ → Value → Type 0 where
   itself : {k : TokenKind} {w : List ℕ} → Reads src k w (part 0 w)
   a-string : {w v : List ℕ} → Str lenient w v → Reads string kind.String w (copyOrPart (has (byte "\\") w) 1 v)
-  an-id : {w : List ℕ} {v : Value} → Name EmptyId w v → Reads id kind.Id (byte "$" ∷ w) v
-  an-annotation : {w : List ℕ} {v : Value} → Name EmptyAnnotation w v
-      → Reads annotation kind.Annotation (byte "@" ∷ w) v
+  a-name : {n : NameKind} {k : TokenKind} {x : ℕ} {w : List ℕ} {v : Value} → Sigil n k x → Name n w v
+      → Reads name k (x ∷ w) v
   -- `+10`: `10`, after 1 byte; `-1_0`: a copy, `-10`
   an-integer : {i : IntegerKind} {sign : Sign} {w u p : List ℕ} → Split (i .hex) w sign u p [] []
       → Reads digits (kind.Integer i) w

@@ -13,6 +13,30 @@ pub enum Reading {
     Buffer { start: usize, len: usize },
 }
 
+// The two tokens that have a name: an id, after its `$`, and an annotation, after its `@`.
+pub enum NameKind {
+    Id,
+    Annotation,
+}
+
+// What the reader of names answers: a refusal and its place, or where the name's bytes are, and whose name it is.
+pub enum NameReading {
+    Refused {
+        refusal: Refusal,
+        place: usize,
+    },
+    Text {
+        kind: NameKind,
+        start: usize,
+        len: usize,
+    },
+    Buffer {
+        kind: NameKind,
+        start: usize,
+        len: usize,
+    },
+}
+
 // A part of a float: the digits before its point, after it, and of its exponent; those of a NaN after `nan:0x`.
 pub enum FloatPart {
     Integral,

@@ -23,12 +23,6 @@ src-requires c κs = search needs
 string-requires : tie.Need-string-requires
 string-requires c κs = search needs
 
-id-requires : tie.Need-id-requires
-id-requires c κs = search needs
-
-annotation-requires : tie.Need-annotation-requires
-annotation-requires c κs = search needs
-
 integer-requires : tie.Need-integer-requires
 integer-requires c κs = search needs
 
@@ -69,49 +63,37 @@ same-length-2 : tie.Need-same-length-2
 same-length-2 c = search needs
 
 returns-3 : tie.Need-returns-3
-returns-3 c = by-number 2 (omega arith) refl (c .before .before .id .ensures)
+returns-3 c = by-number 4 (omega arith) refl (c .before .before .integer .ensures)
 
 same-length-3 : tie.Need-same-length-3
 same-length-3 c = search needs
 
 returns-4 : tie.Need-returns-4
-returns-4 c = by-number 3 (omega arith) refl (c .before .before .annotation .ensures)
+returns-4 c = by-number 5 (omega arith) refl (c .before .before .part .ensures)
 
 same-length-4 : tie.Need-same-length-4
 same-length-4 c = search needs
 
 returns-5 : tie.Need-returns-5
-returns-5 c = by-number 4 (omega arith) refl (c .before .before .integer .ensures)
+returns-5 c = by-number 6 (omega arith) refl (c .before .before .part2 .ensures)
 
 same-length-5 : tie.Need-same-length-5
 same-length-5 c = search needs
 
 returns-6 : tie.Need-returns-6
-returns-6 c = by-number 5 (omega arith) refl (c .before .before .part .ensures)
+returns-6 c = by-number 7 (omega arith) refl (c .before .before .part3 .ensures)
 
 same-length-6 : tie.Need-same-length-6
 same-length-6 c = search needs
 
 returns-7 : tie.Need-returns-7
-returns-7 c = by-number 6 (omega arith) refl (c .before .before .part2 .ensures)
-
-same-length-7 : tie.Need-same-length-7
-same-length-7 c = search needs
+returns-7 c = by-number 8 (omega arith) refl (c .before .before .part4 .ensures)
 
 returns-8 : tie.Need-returns-8
-returns-8 c = by-number 7 (omega arith) refl (c .before .before .part3 .ensures)
-
-same-length-8 : tie.Need-same-length-8
-same-length-8 c = search needs
+returns-8 c = let p = present c in by-nobody (p .before .before .before .match .rest) (p .present .ensures) (c .enum-told .given .1)
 
 returns-9 : tie.Need-returns-9
-returns-9 c = by-number 8 (omega arith) refl (c .before .before .part4 .ensures)
-
-returns-10 : tie.Need-returns-10
-returns-10 c = let p = present c in by-nobody (p .before .before .before .match .rest) (p .present .ensures) (c .enum-told .given .1)
-
-returns-11 : tie.Need-returns-11
-returns-11 c =
+returns-9 c =
     let p = refused c in by-nobody-missing (p .before .before .before .match .rest) (p .present .ensures) (c .before .refusal .given .1)
 
 pub read-spec : {M : Type 1} → statement M
@@ -120,8 +102,6 @@ read-spec =
     (tie.spec
     src-requires
     string-requires
-    id-requires
-    annotation-requires
     integer-requires
     part-requires
     part-requires-2
@@ -144,9 +124,5 @@ read-spec =
     returns-6
     same-length-6
     returns-7
-    same-length-7
     returns-8
-    same-length-8
-    returns-9
-    returns-10
-    returns-11)
+    returns-9)

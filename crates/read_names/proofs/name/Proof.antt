@@ -3,7 +3,7 @@ use mathlib.Core.Path.{subst}
 use native.Mathlib.Omega.{arith}
 use Rattle.wat.specs.Utf8.{Says}
 use Rattle.read_names.proofs.NameLaws.{name-some, name-empty, name-within, name-word, name-quoted}
-use Rattle.read_names.proofs.NameLaws.{names-empty, names-text, names-room, names-copied, names-wrong, names-short, names-absent}
+use Rattle.read_names.proofs.NameLaws.{names-empty, names-text, names-room, names-copied, names-wrong, names-short}
 use borrow.Author.Needs.{needs}
 use Rattle.read_names.proofs.name.Statement.{statement}
 use Rattle.read_names.proofs.name.Tie as tie
@@ -18,7 +18,7 @@ some c = c .before
 abbrev begun : tie.Else1 → tie.Start
 begun c = start (c .before)
 
--- where its string is read, from where the answer is told: a part of the text, a copy, a refusal, nothing
+-- where its string is read, from where the answer is told: a part of the text, a copy
 abbrev read : tie.After-slice-known2 → tie.After-quoted
 read c = c .before .before
 
@@ -27,12 +27,6 @@ text c = read (c .before .before)
 
 abbrev copy : tie.After-n → tie.After-quoted
 copy c = read (c .before .before)
-
-abbrev refused : tie.After-refusal → tie.After-quoted
-refused c = read (c .before .before)
-
-abbrev absent : tie.After-enum-told2 → tie.After-quoted
-absent c = read (c .before .before)
 
 -- where the copy is told, from its part of the buffer and from the check of it; and that check, from both of its answers
 abbrev told : tie.After-buffer2 → tie.After-n
@@ -53,8 +47,11 @@ add-at c = search needs
 sub-rest : tie.Need-sub-rest
 sub-rest c = name-some (start c .pre .0)
 
+empty-name-requires : tie.Need-empty-name-requires
+empty-name-requires c κs = search needs
+
 returns : tie.Need-returns
-returns c = name-empty (start (c .before) .pre .0) _ (c .if1 .taken)
+returns c = let k = c .before in name-empty (start (k .before) .pre .0) _ (c .empty-name .ensures) (k .if1 .taken)
 
 shared-slice-read-if2 : tie.Need-shared-slice-read-if2
 shared-slice-read-if2 c = name-within (begun (some c) .pre .0) (some c .if1 .left)
@@ -72,11 +69,16 @@ quoted-requires c κs =
 enum-known-start : tie.Need-enum-known-start
 enum-known-start c = search needs
 
+empty-name-requires-2 : tie.Need-empty-name-requires-2
+empty-name-requires-2 c κs = search needs
+
 same-length : tie.Need-same-length
 same-length c = search needs
 
 returns-3 : tie.Need-returns-3
-returns-3 c = let k = c .before .before in names-empty _ _ (text k .quoted .ensures) (k .start .given .1) (omega arith)
+returns-3 c =
+    let k = c .before .before .before in
+    names-empty _ _ (text k .quoted .ensures) (k .start .given .1) (omega arith) (c .empty-name2 .ensures)
 
 enum-known-n : tie.Need-enum-known-n
 enum-known-n c = search needs
@@ -98,12 +100,6 @@ enum-told c = search needs
 
 enum-known-valid-up-to : tie.Need-enum-known-valid-up-to
 enum-known-valid-up-to c = search needs
-
-enum-known-refusal : tie.Need-enum-known-refusal
-enum-known-refusal c = search needs
-
-enum-told-2 : tie.Need-enum-told-2
-enum-told-2 c = search needs
 
 same-length-2 : tie.Need-same-length-2
 same-length-2 c = search needs
@@ -134,13 +130,7 @@ same-length-5 : tie.Need-same-length-5
 same-length-5 c = search needs
 
 returns-7 : tie.Need-returns-7
-returns-7 c = let k = c .before in names-short _ _ (refused k .quoted .ensures) (k .refusal .given .1)
-
-same-length-6 : tie.Need-same-length-6
-same-length-6 c = search needs
-
-returns-8 : tie.Need-returns-8
-returns-8 c = names-absent _ _ (absent c .quoted .ensures) (c .enum-told2 .given .1)
+returns-7 c = names-short _ _ (read (c .before) .quoted .ensures) (c .match .keys3)
 
 pub name-spec : {M : Type 1} → statement M
 name-spec =
@@ -148,11 +138,13 @@ name-spec =
     (tie.spec
     add-at
     sub-rest
+    empty-name-requires
     returns
     shared-slice-read-if2
     returns-2
     quoted-requires
     enum-known-start
+    empty-name-requires-2
     same-length
     returns-3
     enum-known-n
@@ -162,8 +154,6 @@ name-spec =
     check-requires
     enum-told
     enum-known-valid-up-to
-    enum-known-refusal
-    enum-told-2
     same-length-2
     returns-4
     same-length-3
@@ -171,6 +161,4 @@ name-spec =
     same-length-4
     returns-6
     same-length-5
-    returns-7
-    same-length-6
-    returns-8)
+    returns-7)

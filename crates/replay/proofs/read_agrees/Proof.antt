@@ -16,30 +16,20 @@ wide-requires c κs = search needs
 returns : tie.Need-returns
 returns c = search needs
 
-number-at-requires : tie.Need-number-at-requires
-number-at-requires c κs = search needs
-
-number-at-requires-2 : tie.Need-number-at-requires-2
-number-at-requires-2 c κs = search needs
-
-number-at-requires-3 : tie.Need-number-at-requires-3
-number-at-requires-3 c κs = search needs
-
 shared-slice-read-wide-2 : tie.Need-shared-slice-read-wide-2
 shared-slice-read-wide-2 c = search needs
 
 wide-requires-2 : tie.Need-wide-requires-2
 wide-requires-2 c κs = search needs
 
-token-of-requires : tie.Need-token-of-requires
-token-of-requires c κs = search needs
+row-token-requires : tie.Need-row-token-requires
+row-token-requires c κs = search needs
 
 array-borrow-prefix-buffer : tie.Need-array-borrow-prefix-buffer
 array-borrow-prefix-buffer c = search needs
 
 slice-aggregate-read : tie.Need-slice-aggregate-read
-slice-aggregate-read c =
-    sym (length-take-le (c .before .before .before .before .before .before .before .before .wide .result) (replicate 64 238) (omega arith))
+slice-aggregate-read c = sym (length-take-le (c .before .before .before .before .before .wide .result) (replicate 64 238) (omega arith))
 
 read-requires : tie.Need-read-requires
 read-requires c κs = search needs
@@ -63,12 +53,9 @@ read-agrees-spec =
     shared-slice-read-wide
     wide-requires
     returns
-    number-at-requires
-    number-at-requires-2
-    number-at-requires-3
     shared-slice-read-wide-2
     wide-requires-2
-    token-of-requires
+    row-token-requires
     array-borrow-prefix-buffer
     slice-aggregate-read
     read-requires
