@@ -1,9 +1,9 @@
 /* Thallusweb: a lexer for the WebAssembly text format with one proved reading.
  *
  * thallusweb_list takes a text apart into tokens, thallusweb_parse gives one token, thallusweb_fold finds the end of a
- * form; thallusweb_read and thallusweb_part give what a string, a name or a number among the tokens stands for, and
- * thallusweb_integer_32 and thallusweb_integer_64 an integer's value; thallusweb_move counts lines and columns. The
- * program examples/c/list.c does all of this.
+ * form; thallusweb_read, thallusweb_name and thallusweb_part give what a string, a number or a name among the tokens
+ * stands for, and thallusweb_integer_32 and thallusweb_integer_64 an integer's value; thallusweb_move counts lines and
+ * columns. The program examples/c/list.c does all of this.
  *
  * A text is an array of bytes in UTF-8, at most THALLUSWEB_MAX_TEXT of them; another is refused by number. No 0 byte
  * ends it: a 0 is a character like others. Lengths, positions, offsets and places count bytes.
@@ -36,7 +36,7 @@ extern "C" {
 
 /* The number of this header's words, constants and prototypes. It rises whenever one of them changes, comes or goes: a
  * library belongs to this header where thallusweb_version returns THALLUSWEB_VERSION. */
-#define THALLUSWEB_VERSION 5
+#define THALLUSWEB_VERSION 6
 uint32_t thallusweb_version(void);
 
 /* The longest text that is lexed, the bytes of a token's record in a list, a buffer that holds every message, and how
@@ -53,6 +53,7 @@ uint32_t thallusweb_version(void);
 #define THALLUSWEB_LIST_WORDS 7
 #define THALLUSWEB_FOLD_WORDS 5
 #define THALLUSWEB_READ_WORDS 5
+#define THALLUSWEB_NAME_WORDS 6
 #define THALLUSWEB_PART_WORDS 3
 #define THALLUSWEB_SIGN_WORDS 5
 #define THALLUSWEB_INTEGER_WORDS 5
@@ -87,8 +88,8 @@ enum {
     THALLUSWEB_BUDGET = 1,    /* list: the budget is used up */
     THALLUSWEB_FULL = 3,      /* list: no room for the next token */
     THALLUSWEB_ABSENT = 0,    /* read, float_sign: the token has no such thing; part: an empty part */
-    THALLUSWEB_IN_TEXT = 1,   /* read, part: a part of the text */
-    THALLUSWEB_IN_BUFFER = 3, /* read, part: a part of the buffer */
+    THALLUSWEB_IN_TEXT = 1,   /* read, name, part: a part of the text */
+    THALLUSWEB_IN_BUFFER = 3, /* read, name, part: a part of the buffer */
     THALLUSWEB_TOLD = 1       /* fold, integer_sign, float_sign, integer_32, integer_64, message: out[1] says it */
 };
 
@@ -148,12 +149,12 @@ enum {
 
     /* What a name stands for. The place is the token's offset. */
     THALLUSWEB_INVALID_UTF8_ID = 22,  /* the name is not UTF-8; first and second: as for 2, in the decoded name */
-    THALLUSWEB_EMPTY_ID = 23,         /* nothing stands behind the $ */
-    THALLUSWEB_EMPTY_ANNOTATION = 24, /* nothing stands behind the @ */
+    THALLUSWEB_EMPTY_ID = 23,         /* nothing stands behind the $, or an empty string */
+    THALLUSWEB_EMPTY_ANNOTATION = 24, /* nothing stands behind the @, or an empty string */
 
     /* What a call cannot do. These have no place: it is 0. */
     THALLUSWEB_NOT_THAT_TOKEN = 30,   /* no token of that kind and length stands at the offset */
-    THALLUSWEB_NOT_THAT_KIND = 31,    /* the reader does not take tokens of that kind; fold: no ( stands there */
+    THALLUSWEB_NOT_THAT_KIND = 31,    /* the call does not take tokens of that kind; fold: no ( stands there */
     THALLUSWEB_BUFFER_TOO_SHORT = 32, /* the copy or the message is longer than the buffer */
     THALLUSWEB_LIST_FULL = 33,        /* the list has no room for the next token; out[0] is THALLUSWEB_FULL */
     THALLUSWEB_NO_MESSAGE = 34,       /* no error that has a message has that number and those values */
@@ -213,17 +214,16 @@ void thallusweb_list(const uint8_t *text, size_t len, uint32_t settings, size_t 
 void thallusweb_fold(const uint8_t *text, size_t len, uint32_t settings, size_t position, uint64_t out[5]);
 
 /* Readers. Digits come without underscores, without a + and without 0x; of a hexadecimal number, other than its
- * exponent, they are hexadecimal. */
+ * exponent, they are hexadecimal. Ids and annotations have a call of their own, thallusweb_name; 2 and 3, their
+ * readers' numbers before version 6, are no reader's now, and will not be. */
 enum {
-    THALLUSWEB_SRC = 0,        /* the token's own bytes; takes every kind */
-    THALLUSWEB_STRING = 1,     /* the bytes that a string stands for, its escapes decoded; kind 6 */
-    THALLUSWEB_ID = 2,         /* the name behind a $, decoded if it is a string; kind 7 */
-    THALLUSWEB_ANNOTATION = 3, /* the name behind an @, decoded if it is a string; kind 9 */
-    THALLUSWEB_INTEGER = 4,    /* an integer's digits, with its -; kind 11 */
-    THALLUSWEB_INTEGRAL = 5,   /* the digits before a float's point, with its -; kinds 12 to 15, as the next three */
-    THALLUSWEB_FRACTION = 6,   /* those after its point, if there are any */
-    THALLUSWEB_EXPONENT = 7,   /* those of its exponent, with its -, if it has one */
-    THALLUSWEB_PAYLOAD = 8     /* those after nan:0x, of kind 14 */
+    THALLUSWEB_SRC = 0,      /* the token's own bytes; takes every kind */
+    THALLUSWEB_STRING = 1,   /* the bytes that a string stands for, its escapes decoded; kind 6 */
+    THALLUSWEB_INTEGER = 4,  /* an integer's digits, with its -; kind 11 */
+    THALLUSWEB_INTEGRAL = 5, /* the digits before a float's point, with its -; kinds 12 to 15, as the next three */
+    THALLUSWEB_FRACTION = 6, /* those after its point, if there are any */
+    THALLUSWEB_EXPONENT = 7, /* those of its exponent, with its -, if it has one */
+    THALLUSWEB_PAYLOAD = 8   /* those after nan:0x, of kind 14 */
 };
 
 /* A reader's first call. token: kind, offset and length, as thallusweb_parse leaves them in out[1], out[2] and out[3].
@@ -233,18 +233,30 @@ enum {
  *   THALLUSWEB_ABSENT     the token has no such part
  *   THALLUSWEB_IN_TEXT    out[1] where the value starts in the text, out[2] its length
  *   THALLUSWEB_IN_BUFFER  out[1] where it starts in the buffer, which is 0, out[2] its length
- *   THALLUSWEB_REFUSED    1 to 4, 30, 31, 32 or 22 to 24, tested in this order: out[1] the number, out[2] its place,
- *                         out[3] and out[4] its values
+ *   THALLUSWEB_REFUSED    1 to 4, 30, 31 or 32, tested in this order: out[1] the number, out[2] its place, out[3] and
+ *                         out[4] its values
  * A reader's number that is not above is refused by 31. Bytes of the buffer past a copy stay as they were; a refusal
- * leaves all of them, but 22, which leaves the decoded name at the front.
+ * leaves all of them.
  * Cost: a check of the whole text, then the token. Handed the token's own bytes as a text, with the offset 0, a reader
  * gives the same value for the cost of the token alone. */
 void thallusweb_read(const uint8_t *text, size_t len, uint64_t reader, const uint64_t token[3], uint8_t *buffer,
                      size_t buffer_len, uint64_t out[5]);
 
-/* A reader's second call: the part that the first call's answer names. out: THALLUSWEB_IN_TEXT or THALLUSWEB_IN_BUFFER,
- * its start and its length; or 0, 0, 0, an empty part, where the answer names none or one that is not inside. Any five
- * words may be handed to it.
+/* The name of an id, behind its $, or of an annotation, behind its @, decoded if it is a string; and which of the two
+ * it is. token, buffer and cost: as for thallusweb_read. out[0]:
+ *   THALLUSWEB_IN_TEXT    out[1] where the name starts in the text, out[2] its length
+ *   THALLUSWEB_IN_BUFFER  out[1] where it starts in the buffer, which is 0, out[2] its length
+ *   THALLUSWEB_REFUSED    1 to 4, 30, 31 for every kind but 7 and 9, 32, 22, and 23 for an empty id or 24 for an empty
+ *                         annotation, tested in this order: out[1] the number, out[2] its place, out[3] and out[4]
+ *                         its values
+ * out[5] is THALLUSWEB_KIND_ID or THALLUSWEB_KIND_ANNOTATION where a name is answered, else 0. Bytes of the buffer past
+ * a copy stay as they were; a refusal leaves all of them, but 22, which leaves the decoded name at the front. */
+void thallusweb_name(const uint8_t *text, size_t len, const uint64_t token[3], uint8_t *buffer, size_t buffer_len,
+                     uint64_t out[6]);
+
+/* The second call, after thallusweb_read or thallusweb_name: the part that the first call's answer names. out:
+ * THALLUSWEB_IN_TEXT or THALLUSWEB_IN_BUFFER, its start and its length; or 0, 0, 0, an empty part, where the answer
+ * names none or one that is not inside. Any five words may be handed to it, such as the first five of thallusweb_name.
  * Cost: the same for every text. */
 void thallusweb_part(const uint8_t *text, size_t len, const uint8_t *buffer, size_t buffer_len,
                      const uint64_t answer[5], uint64_t out[3]);

@@ -54,7 +54,7 @@ static bool refused(const char *name, const uint8_t *text, size_t at, const uint
     return false;
 }
 
-/* Whether the names among so many listed tokens can be read. A reader is handed just the token's bytes: the value is the
+/* Whether the names among so many listed tokens can be read. The call is handed just the token's bytes: the name is the
  * same (passes-readable). */
 static bool names_pass(const char *name, const struct room *room, uint64_t count) {
     size_t at = 0;
@@ -62,12 +62,11 @@ static bool names_pass(const char *name, const struct room *room, uint64_t count
         const uint8_t *record = room->list + THALLUSWEB_RECORD * i;
         uint64_t len = record[0] | record[1] << 8 | record[2] << 16 | (uint64_t)record[3] << 24;
         uint64_t kind = record[4] | record[5] << 8;
-        if (kind == 7 || kind == 9) {
-            uint64_t token[3] = {kind, 0, len};
-            uint64_t answer[5];
-            uint64_t reader = kind == 7 ? THALLUSWEB_ID : THALLUSWEB_ANNOTATION;
-            thallusweb_read(room->text + at, len, reader, token, room->buffer, len, answer);
-            if (answer[0] == 2) {
+        if (kind == THALLUSWEB_KIND_ID || kind == THALLUSWEB_KIND_ANNOTATION) {
+            uint64_t token[THALLUSWEB_TOKEN_WORDS] = {kind, 0, len};
+            uint64_t answer[THALLUSWEB_NAME_WORDS];
+            thallusweb_name(room->text + at, len, token, room->buffer, len, answer);
+            if (answer[0] == THALLUSWEB_REFUSED) {
                 return refused(name, room->text, at, answer);
             }
         }

@@ -72,13 +72,20 @@ fn main() {
         listed_and_read(rounds, name, piece);
     }
     println!("\none read of a token of five bytes    ratio   ns, ours and the Rust's");
-    for (text, reader) in [
-        ("local", Reader::Src),
-        ("12345", Reader::Integer),
-        ("$name", Reader::Id),
-        ("\"abc\"", Reader::String),
-    ] {
-        one_read(rounds, text, reader);
+    let reads: [(&str, Read); 4] = [
+        ("local", |token, text| {
+            _ = black_box(token.read(text, Reader::Src))
+        }),
+        ("12345", |token, text| {
+            _ = black_box(token.read(text, Reader::Integer))
+        }),
+        ("$name", |token, text| _ = black_box(token.name(text))),
+        ("\"abc\"", |token, text| {
+            _ = black_box(token.read(text, Reader::String))
+        }),
+    ];
+    for (text, read) in reads {
+        one_read(rounds, text, read);
     }
     println!("\nan integer's value, as an i64        ratio   ns, ours and the Rust's");
     for (name, text) in [
@@ -269,8 +276,7 @@ fn read_listed(text: &str, list: &[u8]) -> usize {
             TokenKind::Keyword | TokenKind::Reserved => {
                 _ = black_box(token.read(text, Reader::Src))
             }
-            TokenKind::Id => _ = black_box(token.id(text)),
-            TokenKind::Annotation => _ = black_box(token.annotation(text)),
+            TokenKind::Id | TokenKind::Annotation => _ = black_box(token.name(text)),
             TokenKind::String => _ = black_box(token.string(text)),
             TokenKind::Integer(kind) => _ = black_box(token.integer(text, kind)),
             TokenKind::Float(kind) => _ = black_box(token.float(text, kind)),
@@ -319,13 +325,16 @@ fn beside(rounds: u32, name: &str, ours: impl Fn(), theirs: impl Fn()) {
     );
 }
 
+/// Reads a token of a text.
+type Read = fn(&Token, &str);
+
 /// The time of one read of a token.
-fn one_read(rounds: u32, text: &str, reader: Reader) {
+fn one_read(rounds: u32, text: &str, read: Read) {
     let (token, original) = one_token(text);
     beside(
         rounds,
         &format!("one read, {text}"),
-        || _ = black_box(token.read(black_box(text), reader)),
+        || read(&token, black_box(text)),
         || _ = read_by_the_original(&original, black_box(text)),
     );
 }

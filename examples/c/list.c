@@ -42,31 +42,33 @@ static void complain(const char *name, const uint32_t place[3], const uint64_t r
     }
 }
 
-/* The reader that says what a token of the kind stands for; THALLUSWEB_SRC if it stands for itself. */
-static uint64_t reader_for(uint64_t kind) {
-    switch (kind) {
-    case THALLUSWEB_KIND_STRING: return THALLUSWEB_STRING;
-    case THALLUSWEB_KIND_ID: return THALLUSWEB_ID;
-    case THALLUSWEB_KIND_ANNOTATION: return THALLUSWEB_ANNOTATION;
-    default: return THALLUSWEB_SRC;
-    }
+/* Whether print_value is for tokens of the kind: a string, or one of the two that have a name. */
+static bool has_value(uint64_t kind) {
+    return kind == THALLUSWEB_KIND_STRING || kind == THALLUSWEB_KIND_ID || kind == THALLUSWEB_KIND_ANNOTATION;
 }
 
-/* What a token stands for. It is handed just its own bytes: the value is the same, and the price the token's. */
-static void print_value(const uint8_t *own, uint64_t reader, uint64_t kind, uint64_t len) {
+/* What a string stands for, or a name, and of which token it is: one call reads both. It is handed just the token's own
+ * bytes: the value is the same, and the price the token's. */
+static void print_value(const uint8_t *own, uint64_t kind, uint64_t len) {
     uint64_t token[THALLUSWEB_TOKEN_WORDS] = {kind, 0, len};
-    uint64_t answer[THALLUSWEB_READ_WORDS], part[THALLUSWEB_PART_WORDS];
+    uint64_t answer[THALLUSWEB_NAME_WORDS], part[THALLUSWEB_PART_WORDS];
     uint8_t *buffer = malloc(len);
     if (buffer == NULL) {
         perror("memory");
         exit(1);
     }
-    thallusweb_read(own, len, reader, token, buffer, len, answer);
+    const char *whose = "";
+    if (kind == THALLUSWEB_KIND_STRING) {
+        thallusweb_read(own, len, THALLUSWEB_STRING, token, buffer, len, answer);
+    } else {
+        thallusweb_name(own, len, token, buffer, len, answer);
+        whose = answer[5] == THALLUSWEB_KIND_ID ? "id " : "annotation ";
+    }
     thallusweb_part(own, len, buffer, len, answer, part);
     if (answer[0] == THALLUSWEB_REFUSED) {
         printf(" refused by %llu", (unsigned long long)answer[1]);
     } else {
-        printf(" = ");
+        printf(" = %s", whose);
         fwrite((part[0] == THALLUSWEB_IN_BUFFER ? buffer : own) + part[1], 1, part[2], stdout);
     }
     free(buffer);
@@ -169,8 +171,8 @@ int main(int argc, char **argv) {
             if (kind != THALLUSWEB_KIND_WHITESPACE) {
                 printf("%u:%u %llu ", place[0], place[1], (unsigned long long)kind);
                 fwrite(text + at, 1, token_len, stdout);
-                if (reader_for(kind) != THALLUSWEB_SRC) {
-                    print_value(text + at, reader_for(kind), kind, token_len);
+                if (has_value(kind)) {
+                    print_value(text + at, kind, token_len);
                 } else if ((kind & THALLUSWEB_KIND_MASK) == THALLUSWEB_KIND_INTEGER) {
                     print_integer(text + at, kind, token_len);
                 } else if (kind == THALLUSWEB_KIND_LPAREN && at >= past) {

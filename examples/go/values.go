@@ -12,7 +12,8 @@ import (
 	"unsafe"
 )
 
-var readers = map[uint16]C.uint64_t{6: C.THALLUSWEB_STRING, 7: C.THALLUSWEB_ID, 9: C.THALLUSWEB_ANNOTATION}
+// whose says of which token a name is, by the last word of the answer.
+var whose = map[C.uint64_t]string{C.THALLUSWEB_KIND_ID: "id ", C.THALLUSWEB_KIND_ANNOTATION: "annotation "}
 
 // room has so many bytes and a place for one more, so that it has a pointer even for none.
 func room(n int) []byte               { return make([]byte, n, n+1) }
@@ -20,11 +21,14 @@ func pointer(b []byte) *C.uint8_t     { return (*C.uint8_t)(unsafe.Pointer(&b[:1
 func length(b []byte) C.size_t        { return C.size_t(len(b)) }
 func move(p *[3]C.uint32_t, b []byte) { C.thallusweb_move(&p[0], pointer(b), length(b)) }
 func isInteger(kind uint16) bool      { return kind&C.THALLUSWEB_KIND_MASK == C.THALLUSWEB_KIND_INTEGER }
+func isString(kind uint16) bool       { return kind == C.THALLUSWEB_KIND_STRING }
+func hasName(kind uint16) bool        { return kind == C.THALLUSWEB_KIND_ID || kind == C.THALLUSWEB_KIND_ANNOTATION }
 
-// value is what a token stands for, given just its own bytes, an integer as an int64; nothing if it is refused.
+// value is what a token stands for, given just its own bytes, an integer as an int64; of a name first whose it is, which
+// the call says; nothing if it is refused.
 func value(own []byte, kind uint16) []byte {
 	token, buffer := [3]C.uint64_t{C.uint64_t(kind), 0, C.uint64_t(len(own))}, room(len(own))
-	var answer [5]C.uint64_t
+	var answer [6]C.uint64_t
 	var part [3]C.uint64_t
 	if isInteger(kind) {
 		C.thallusweb_integer_64(pointer(own), length(own), &token[0], &answer[0])
@@ -33,12 +37,16 @@ func value(own []byte, kind uint16) []byte {
 		}
 		return []byte(fmt.Sprint(int64(answer[1])))
 	}
-	C.thallusweb_read(pointer(own), length(own), readers[kind], &token[0], pointer(buffer), length(buffer), &answer[0])
+	if isString(kind) {
+		C.thallusweb_read(pointer(own), length(own), C.THALLUSWEB_STRING, &token[0], pointer(buffer), length(buffer), &answer[0])
+	} else {
+		C.thallusweb_name(pointer(own), length(own), &token[0], pointer(buffer), length(buffer), &answer[0])
+	}
 	C.thallusweb_part(pointer(own), length(own), pointer(buffer), length(buffer), &answer[0], &part[0])
 	if part[0] == 3 {
 		own = buffer
 	}
-	return own[part[1] : part[1]+part[2]]
+	return append([]byte(whose[answer[5]]), own[part[1]:part[1]+part[2]]...)
 }
 
 func main() {
@@ -57,7 +65,7 @@ func main() {
 	for ; listed[5] > 0; listed[5]-- {
 		own := text[at : at+int(binary.LittleEndian.Uint32(list))]
 		kind := binary.LittleEndian.Uint16(list[4:])
-		if readers[kind] != 0 || isInteger(kind) {
+		if isString(kind) || hasName(kind) || isInteger(kind) {
 			fmt.Printf("%d:%d %s\n", place[0], place[1], value(own, kind))
 		}
 		move(&place, own)

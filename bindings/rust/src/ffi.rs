@@ -34,6 +34,14 @@ mod c {
             buffer_len: usize,
             out: *mut u64,
         );
+        pub fn thallusweb_name(
+            text: *const u8,
+            len: usize,
+            token: *const u64,
+            buffer: *mut u8,
+            buffer_len: usize,
+            out: *mut u64,
+        );
         pub fn thallusweb_integer_32(text: *const u8, len: usize, token: *const u64, out: *mut u64);
         pub fn thallusweb_integer_64(text: *const u8, len: usize, token: *const u64, out: *mut u64);
         pub fn thallusweb_message(
@@ -49,7 +57,7 @@ mod c {
 }
 
 /// The version of the header that these bindings are written from.
-const VERSION: u32 = 5;
+const VERSION: u32 = 6;
 
 /// Stops the program if it is linked with a library of another version: its words would be misread. Asks once.
 #[inline]
@@ -136,6 +144,15 @@ pub fn read(text: &[u8], reader: u64, token: [u64; 3], buffer: &mut [u8]) -> [u6
     // SAFETY: `text` and `buffer` are slices, with their lengths, and `buffer` is borrowed alone; `token` has the 3 words that are read,
     // and is a copy; `out` has the 5 that are written.
     unsafe { c::thallusweb_read(text.as_ptr(), text.len(), reader, token.as_ptr(), at, room, out.as_mut_ptr()) };
+    out
+}
+
+pub fn name(text: &[u8], token: [u64; 3], buffer: &mut [u8]) -> [u64; 6] {
+    same_version();
+    let mut out = [0; 6];
+    let (at, room) = (buffer.as_mut_ptr(), buffer.len());
+    // SAFETY: as for `read`, whose arguments these are but for the reader; `out` has the 6 words that are written.
+    unsafe { c::thallusweb_name(text.as_ptr(), text.len(), token.as_ptr(), at, room, out.as_mut_ptr()) };
     out
 }
 

@@ -572,27 +572,51 @@ pub struct Listed {
     pub position: usize,
 }
 
-/// What can be read of a token.
+/// What can be read of a token, by the numbers that the C calls have. Ids and Annotations are read by [`Token::name`]; their readers'
+/// numbers, 2 and 3, are not used again.
 #[derive(Clone, Copy, Debug, PartialEq, Eq)]
 pub enum Reader {
     /// The token's own bytes.
-    Src,
+    Src = 0,
     /// The bytes that a string stands for.
-    String,
-    /// The name of an Id.
-    Id,
-    /// The name of an Annotation.
-    Annotation,
+    String = 1,
     /// The digits of an Integer.
-    Integer,
+    Integer = 4,
     /// The digits before a Float's point, with its `-`.
-    Integral,
+    Integral = 5,
     /// Those behind its point, if there are any.
-    Fraction,
+    Fraction = 6,
     /// Those of its exponent, with its `-`, if it has one.
-    Exponent,
+    Exponent = 7,
     /// Those of a NaN's payload, if it has one.
-    Payload,
+    Payload = 8,
+}
+
+/// A name, and of which of the two tokens that have one: see [`Token::name`].
+#[derive(Clone, Debug, PartialEq, Eq)]
+pub enum Name<'a> {
+    /// Of an Id, without its `$`.
+    Id(Cow<'a, str>),
+    /// Of an Annotation, without its `@`.
+    Annotation(Cow<'a, str>),
+}
+
+impl<'a> Name<'a> {
+    /// The name, whichever token it is of.
+    #[must_use]
+    pub fn as_str(&self) -> &str {
+        match self {
+            Name::Id(name) | Name::Annotation(name) => name,
+        }
+    }
+
+    /// The same by value: a part of the text, or a copy where an escape had to be decoded.
+    #[must_use]
+    pub fn into_text(self) -> Cow<'a, str> {
+        match self {
+            Name::Id(name) | Name::Annotation(name) => name,
+        }
+    }
 }
 
 /// An integer's digits, ready to parse.
@@ -637,6 +661,9 @@ fn text(bytes: Cow<'_, [u8]>) -> Cow<'_, str> {
     }
 }
 
+/// What the library gives of a token: a part of its bytes or a copy, or nothing.
+type Given<'a> = Option<Cow<'a, [u8]>>;
+
 /// A copy of up to so many bytes is read into a buffer on the stack first.
 const SHORT: usize = 64;
 
@@ -652,6 +679,33 @@ impl Token {
         Ok((own.as_bytes(), [self.kind.number(), 0, self.len.into()]))
     }
 
+    /// What a call of the library gives of the token, handed its own bytes, and the call's last word.
+    fn read_by<'a>(
+        &self,
+        s: &'a str,
+        call: impl Fn(&[u8], [u64; 3], &mut [u8]) -> [u64; 6],
+    ) -> Result<(Given<'a>, u64), Error> {
+        let (own, token) = self.alone(s)?;
+        let (mut short, mut long) = ([0; SHORT], Vec::new());
+        let mut buffer = &mut short[..];
+        let mut answer = call(own, token, buffer);
+        if answer[..2] == [2, 32] {
+            // a buffer as long as the token holds every copy
+            long.resize(own.len(), 0);
+            buffer = &mut long[..];
+            answer = call(own, token, buffer);
+        }
+        let [what, start, len, first, second, last] = answer;
+        let part = start as usize..start.saturating_add(len) as usize;
+        let bytes = match what {
+            0 => None,
+            1 => own.get(part).map(Cow::Borrowed),
+            3 => buffer.get(part).map(|copy| Cow::Owned(copy.to_vec())),
+            _ => return Err(Error::from_words([start, len, first, second]).moved(self.offset)),
+        };
+        Ok((bytes, last))
+    }
+
     /// What a reader gives of the token, which is one of the text; nothing for a part that its kind lacks. Takes the time of
     /// the token and not of the text.
     ///
@@ -662,40 +716,63 @@ impl Token {
     /// let text = r#""a\20b""#;
     /// let token = Lexer::new(text).parse(&mut 0)?.unwrap();
     /// assert_eq!(token.read(text, Reader::String)?.as_deref(), Some(&b"a b"[..]));
-    /// assert_eq!(token.read(text, Reader::Id).unwrap_err().refusal(), &Refusal::NotThatKind);
+    /// assert_eq!(token.read(text, Reader::Integer).unwrap_err().refusal(), &Refusal::NotThatKind);
     /// # Ok::<(), thallusweb::Error>(())
     /// ```
     ///
     /// # Errors
     ///
-    /// [`Refusal::NotThatToken`] where the text has no such token there, [`Refusal::NotThatKind`] where the reader takes other kinds, and a
-    /// [`Refusal::Lex`] at the token's offset where a name is empty or not UTF-8.
+    /// [`Refusal::NotThatToken`] where the text has no such token there, and [`Refusal::NotThatKind`] where the reader takes other kinds.
     pub fn read<'a>(&self, s: &'a str, reader: Reader) -> Result<Option<Cow<'a, [u8]>>, Error> {
-        let (own, token) = self.alone(s)?;
-        let (mut short, mut long) = ([0; SHORT], Vec::new());
-        let mut buffer = &mut short[..];
-        let [mut what, mut start, mut len, mut first, mut second] = ffi::read(own, reader as u64, token, buffer);
-        if (what, start) == (2, 32) {
-            // a buffer as long as the token holds every copy
-            long.resize(own.len(), 0);
-            buffer = &mut long[..];
-            [what, start, len, first, second] = ffi::read(own, reader as u64, token, buffer);
-        }
-        let part = start as usize..start.saturating_add(len) as usize;
-        match what {
-            0 => Ok(None),
-            1 => Ok(own.get(part).map(Cow::Borrowed)),
-            3 => Ok(buffer.get(part).map(|copy| Cow::Owned(copy.to_vec()))),
-            _ => Err(Error::from_words([start, len, first, second]).moved(self.offset)),
-        }
+        let call = |own: &[u8], token: [u64; 3], buffer: &mut [u8]| {
+            let [what, start, len, first, second] = ffi::read(own, reader as u64, token, buffer);
+            [what, start, len, first, second, 0]
+        };
+        self.read_by(s, call).map(|(bytes, _)| bytes)
     }
 
     fn part<'a>(&self, s: &'a str, reader: Reader) -> Option<Cow<'a, str>> {
         self.read(s, reader).ok().flatten().map(text)
     }
 
-    fn name<'a>(&self, s: &'a str, reader: Reader) -> Result<Cow<'a, str>, Error> {
-        self.read(s, reader).map(|name| text(name.unwrap_or_default()))
+    /// The name of an Id, without its `$`, or of an Annotation, without its `@`, and of which of the two it is: no need to ask for the
+    /// kind first, and to choose [`Token::id`] or [`Token::annotation`] by it. Takes the time of the token and not of the text.
+    ///
+    /// ```
+    /// use thallusweb::Refusal;
+    /// use thallusweb::lexer::{LexError, Lexer, Name};
+    ///
+    /// let name = |text: &'static str| Lexer::new(text).parse(&mut 0)?.unwrap().name(text);
+    /// assert_eq!(name("$x"), Ok(Name::Id("x".into())));
+    /// assert_eq!(name(r#"@"a\20b""#), Ok(Name::Annotation("a b".into())));
+    /// assert_eq!(name("@x")?.as_str(), "x");
+    /// assert_eq!(name("x").unwrap_err().refusal(), &Refusal::NotThatKind);
+    /// assert_eq!(name("$").unwrap_err().lex_error(), Some(&LexError::EmptyId));
+    /// assert_eq!(name(r#"@"""#).unwrap_err().lex_error(), Some(&LexError::EmptyAnnotation));
+    /// # Ok::<(), thallusweb::Error>(())
+    /// ```
+    ///
+    /// # Errors
+    ///
+    /// [`Refusal::NotThatToken`] where the text has no such token there, [`Refusal::NotThatKind`] where it has another kind, and a
+    /// [`Refusal::Lex`] at the token's offset where the name is not UTF-8 ([`LexError::InvalidUtf8Id`]) or empty ([`LexError::EmptyId`],
+    /// [`LexError::EmptyAnnotation`]).
+    pub fn name<'a>(&self, s: &'a str) -> Result<Name<'a>, Error> {
+        let (name, kind) = self.read_by(s, ffi::name)?;
+        let name = text(name.unwrap_or_default());
+        Ok(match TokenKind::given(kind) {
+            TokenKind::Annotation => Name::Annotation(name),
+            _ => Name::Id(name),
+        })
+    }
+
+    /// Refuses by 31 a token of another kind, where it is one of the text at all.
+    fn is_of(&self, s: &str, kind: TokenKind) -> Result<(), Error> {
+        if self.kind == kind {
+            return Ok(());
+        }
+        self.read(s, Reader::Src)?;
+        Err(Error::new(Refusal::NotThatKind, None))
     }
 
     /// The token's own bytes; empty where the text has none such.
@@ -708,18 +785,20 @@ impl Token {
     ///
     /// # Errors
     ///
-    /// Where the name is empty or not UTF-8, and where the token is none, as [`Token::read`] has it.
+    /// Those of [`Token::name`], and [`Refusal::NotThatKind`] for an Annotation too.
     pub fn id<'a>(&self, s: &'a str) -> Result<Cow<'a, str>, Error> {
-        self.name(s, Reader::Id)
+        self.is_of(s, TokenKind::Id)?;
+        self.name(s).map(Name::into_text)
     }
 
     /// The name of an Annotation, without its `@`.
     ///
     /// # Errors
     ///
-    /// Where the name is empty or not UTF-8, and where the token is none, as [`Token::read`] has it.
+    /// Those of [`Token::name`], and [`Refusal::NotThatKind`] for an Id too.
     pub fn annotation<'a>(&self, s: &'a str) -> Result<Cow<'a, str>, Error> {
-        self.name(s, Reader::Annotation)
+        self.is_of(s, TokenKind::Annotation)?;
+        self.name(s).map(Name::into_text)
     }
 
     /// The bytes of a Keyword.

@@ -42,9 +42,10 @@
 //!   the same: a loop over any of them takes time in line with the text. [`lexer::Lexer::fold`] goes by windows too, and takes time in
 //!   line with the form. [`lexer::Lexer::list`] checks the whole text once.
 //! * There is more: [`lexer::Lexer::list`], [`lexer::Lexer::from_bytes`], [`lexer::check_utf8`], the numbers of kinds and refusals; the
-//!   end of a form, [`lexer::Lexer::fold`]; and the value of an integer by the standard, [`u32`](lexer::Token::u32),
-//!   [`u64`](lexer::Token::u64), [`i32`](lexer::Token::i32) and [`i64`](lexer::Token::i64) of a token. wast's parser takes more:
-//!   `+2147483648` to `+4294967295` for an `i32`, and the like for an `i64`.
+//!   name of an Id or an Annotation, and of which of the two it is, [`lexer::Token::name`]; the end of a form, [`lexer::Lexer::fold`];
+//!   and the value of an integer by the standard, [`u32`](lexer::Token::u32), [`u64`](lexer::Token::u64), [`i32`](lexer::Token::i32) and
+//!   [`i64`](lexer::Token::i64) of a token. wast's parser takes more: `+2147483648` to `+4294967295` for an `i32`, and the like for an
+//!   `i64`.
 //!
 //! One value is found for each token of a text that [`lexer::Lexer::iter`] carries from 0 to its end; the one refusal left of its reader
 //! is a name that is empty or not UTF-8.

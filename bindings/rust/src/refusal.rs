@@ -20,7 +20,7 @@ pub enum Refusal {
     Lex(LexError),
     /// Lexing at the token's offset gives another token, or none.
     NotThatToken,
-    /// The reader does not read tokens of that kind; for [`Lexer::fold`](crate::lexer::Lexer::fold), no `(` stands there.
+    /// The call does not take tokens of that kind; for [`Lexer::fold`](crate::lexer::Lexer::fold), no `(` stands there.
     NotThatKind,
     /// A line or column does not fit the place counter.
     CounterFull,

@@ -1,7 +1,7 @@
 //! What users of `wast::lexer` count on, and what is ours: no panic, refusals, places.
 
 use std::borrow::Cow;
-use thallusweb::lexer::{Float, LexError, Lexer, Listed, Reader, SignToken, Stop, Token, TokenKind};
+use thallusweb::lexer::{Float, LexError, Lexer, Listed, Name, Reader, SignToken, Stop, Token, TokenKind};
 use thallusweb::{Error, Place, Refusal, Settings};
 
 fn one(text: &str) -> Token {
@@ -141,12 +141,94 @@ fn ends_of_forms() {
     assert_eq!(fold(&format!("{deepest}{}", ")".repeat(65)), 0), Ok(128));
 }
 
+/// One call for both tokens that have a name, and wast's two, which take one each.
 #[test]
 fn names() {
-    assert_eq!(one("$\"a b\"").id("$\"a b\"").unwrap(), "a b");
-    let error = one("$\"\\c3\"").id("$\"\\c3\"").unwrap_err();
+    // behind the `$` or `@`; what is borrowed, and what is copied
+    let long = "語".repeat(30);
+    let (quoted, escaped) = (format!("\"{long}\""), format!("\"\\u{{61}}{long}\""));
+    let rows = [
+        ("x", Cow::Borrowed("x")),
+        ("$@", Cow::Borrowed("$@")),
+        ("\"a b\"", Cow::Borrowed("a b")),
+        ("\"é\"", Cow::Borrowed("é")),
+        (&quoted, Cow::Borrowed(&long)),
+        ("\"a\\20b\"", Cow::Owned("a b".to_string())),
+        ("\"\\c3\\a9\"", Cow::Owned("é".to_string())),
+        (&escaped, Cow::Owned(format!("a{long}"))),
+    ];
+    for (behind, name) in rows {
+        for (sigil, kind) in [('$', TokenKind::Id), ('@', TokenKind::Annotation)] {
+            let text = format!("é ({sigil}{behind})");
+            let token = Lexer::new(&text).parse(&mut 4).unwrap().unwrap();
+            let read = token.name(&text).unwrap();
+            assert_eq!(matches!(read, Name::Id(_)), kind == TokenKind::Id, "{text}");
+            assert_eq!((read.as_str(), token.kind), (&*name, kind), "{text}");
+            let (alone, other) = match kind {
+                TokenKind::Id => (token.id(&text), token.annotation(&text)),
+                _ => (token.annotation(&text), token.id(&text)),
+            };
+            assert_eq!(other, Err(Error::from(Refusal::NotThatKind)), "{text}");
+            for read in [alone.unwrap(), read.into_text()] {
+                assert_eq!(
+                    (matches!(read, Cow::Borrowed(_)), &read),
+                    (matches!(name, Cow::Borrowed(_)), &name),
+                    "{text}"
+                );
+            }
+        }
+    }
+}
+
+#[test]
+fn names_that_are_none() {
+    let text = "x $ $\"\" $\"\\ff\" @ @\"\" @\"a\\c3\" \"s\" 7";
+    let lexer = Lexer::new(text);
+    let refused = |read: Result<&str, &Error>| {
+        let error = read.unwrap_err();
+        (error.refusal().number(), error.place())
+    };
+    let told = |token: &Token| {
+        let (name, id, annotation) = (token.name(text), token.id(text), token.annotation(text));
+        let name = refused(name.as_ref().map(Name::as_str));
+        [name, refused(id.as_deref()), refused(annotation.as_deref())]
+    };
+    let other = (31, None);
+    let rows = [
+        (0, [other; 3]),
+        (2, [(23, Some(2)), (23, Some(2)), other]),
+        (4, [(23, Some(4)), (23, Some(4)), other]),
+        (8, [(22, Some(8)), (22, Some(8)), other]),
+        (15, [(24, Some(15)), other, (24, Some(15))]),
+        (17, [(24, Some(17)), other, (24, Some(17))]),
+        (21, [(22, Some(21)), other, (22, Some(21))]),
+        (29, [other; 3]),
+        (33, [other; 3]),
+    ];
+    let mut tokens = lexer.iter(0).map(Result::unwrap).filter(|token| token.kind != TokenKind::Whitespace);
+    for (offset, expected) in rows {
+        let token = tokens.next().unwrap();
+        assert_eq!((token.offset, told(&token)), (offset, expected), "at {offset}");
+        // what is not there is refused before its kind and its name are looked at
+        let swapped = match token.kind {
+            TokenKind::Id => TokenKind::Annotation,
+            TokenKind::Annotation => TokenKind::Id,
+            _ => TokenKind::Whitespace,
+        };
+        for wrong in [
+            Token { kind: swapped, ..token },
+            Token { len: token.len + 1, ..token },
+            Token { len: 0, ..token },
+            Token { offset: 1, ..token },
+            Token { offset: usize::MAX, ..token },
+        ] {
+            assert_eq!(told(&wrong), [(30, None); 3], "{wrong:?}");
+        }
+    }
+    assert_eq!(tokens.next(), None);
+    let error = one("$\"a\\c3\"").name("$\"a\\c3\"").unwrap_err();
     let Some(LexError::InvalidUtf8Id(utf8)) = error.lex_error() else { panic!("{error:?}") };
-    assert_eq!((utf8.valid_up_to(), utf8.error_len()), (0, None));
+    assert_eq!((utf8.valid_up_to(), utf8.error_len()), (1, None));
     assert_eq!(error.message(), "malformed UTF-8 encoding of string-based id");
     assert_eq!(one("@").annotation("@").unwrap_err().message(), "empty annotation id");
 }
@@ -249,10 +331,10 @@ fn strict_digits() {
             if let (true, Ok(Some(token))) = (strict, parsed) {
                 let lenient = Lexer::new(text).parse(&mut 0).unwrap().unwrap();
                 assert_eq!(token, lenient, "{text}");
-                let readers = [Reader::Src, Reader::String, Reader::Id];
-                for reader in readers {
+                for reader in [Reader::Src, Reader::String] {
                     assert_eq!(token.read(text, reader), lenient.read(text, reader), "{text}, {reader:?}");
                 }
+                assert_eq!(token.name(text), lenient.name(text), "{text}");
                 assert!(token.read(text, Reader::Src).is_ok(), "{text}");
             }
         }
@@ -270,7 +352,7 @@ fn strict_digits() {
     // the readers lex without the setting, and so have the value of what is refused with it
     let lexer = Lexer::with_settings(text, strict);
     let name = lexer.parse(&mut 0).unwrap().unwrap();
-    assert_eq!(name.id(text).unwrap(), "\u{10}");
+    assert_eq!(name.name(text), Ok(Name::Id("\u{10}".into())));
     let refused = Lexer::new(text).parse(&mut { 11 }).unwrap().unwrap();
     assert!(lexer.parse(&mut { 11 }).is_err());
     assert_eq!(refused.read(text, Reader::String).unwrap().unwrap()[..], [0x10]);
@@ -289,7 +371,8 @@ fn nothing_panics() {
             let _ = lexer.fold(position);
             for len in [0, 1, 2, u32::MAX] {
                 let token = Token { kind: TokenKind::String, offset: position, len };
-                let _ = (token.src(text), token.id(text), token.annotation(text), token.read(text, Reader::Payload));
+                let _ = (token.src(text), token.read(text, Reader::Payload));
+                let _ = (token.name(text), token.id(text), token.annotation(text));
                 let _ = (token.u32(text), token.u64(text), token.i32(text), token.i64(text));
             }
         }
