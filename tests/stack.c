@@ -59,6 +59,8 @@ static void ask(void) {
         thallusweb_read(text, most, reader, token, buffer, most, out);
         thallusweb_part(text, most, buffer, most, out, part);
     }
+    thallusweb_name(text, most, token, buffer, most, out);
+    thallusweb_part(text, most, buffer, most, out, part);
     thallusweb_integer_sign(text, most, token, out);
     thallusweb_float_sign(text, most, token, out);
     thallusweb_integer_32(text, most, token, out);

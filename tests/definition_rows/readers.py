@@ -5,7 +5,11 @@ The parts come from regular expressions; if they are not what the definitions as
 import re
 
 from .computed import Row, from_hexadecimal
-from .terms import HEX, KINDS, READERS, error, kind, listed
+from .terms import HEX, KINDS, READERS, SIGILS, error, kind, listed
+
+# what is counted: the readers, and that of names by whose they are
+NAMED = [*(f"name of an {token}" for token in SIGILS.values()), "name of another"]
+READ = [answer for reader, _ in READERS.values() for answer in (NAMED if reader == "name" else [reader])]
 
 ESCAPES = {"t": 9, "n": 10, "r": 13, '"': 34, "'": 39, "\\": 92}
 
@@ -107,8 +111,8 @@ def derivation(reader, kind_number, source, said, left):
         return "Reads.itself"
     if reader == "string":
         return f"Reads.a-string {string(source)}"
-    if reader in ("id", "annotation"):
-        return f"Reads.an-{reader} {name(source[1:], said, left)}"
+    if reader == "name":
+        return f"Reads.a-name Sigil.{SIGILS[kind_number]} {name(source[1:], said, left)}"
     if kind_name in ("Inf", "Nan"):
         return f"Reads.of-{kind_name.lower()}"
     if kind_name == "NanVal":
@@ -122,14 +126,40 @@ def derivation(reader, kind_number, source, said, left):
     return number(reader, source, kind_number & HEX)
 
 
+def other_kind(reader, kind_term):
+    """Why a reader does not take a kind: a proof that `Takes` is empty."""
+    if reader == "name":
+        sigil = f"(n : NameKind) (x : ℕ) (s : Sigil n {kind_term} x)"
+        return f"evidence.no-name {{k = {kind_term}}} (λ {sigil}. elim s [ ])"
+    return f"λ (t : Takes (Reader.{reader}) {kind_term}). elim t [ ]"
+
+
+def name_call(kind_number, offset, length, place):
+    """That the name call answers what the reader of names does, and of which token a name is: a statement and its proof."""
+    token = f"(record {{ kind = {kind(kind_number)}; offset = {offset}; len = {length} }})"
+    case, numbers = place.removeprefix("reading.").split(" ", 1)
+    if case == "Refused":
+        answer, proof = f"named.Refused {numbers}", "ReadsName.no-name"
+    else:
+        answer = f"named.{case} whose.{KINDS[kind_number]} {numbers}"
+        proof = f"ReadsName.in-{case.lower()} Sigil.{SIGILS[kind_number]}"
+    read = f"Read Reader.name text {token} buffer ({place}) after"
+    statement = f"((text buffer after : List ℕ) → {read} → ReadsName text {token} buffer ({answer}) after)"
+    return statement, f"λ text buffer after r. {proof} r"
+
+
 def reader_row(line):
-    reader_number, kind_number, offset, source, said, *numbers = line.split()
-    reader, takes = READERS[int(reader_number)]
+    asked_reader, kind_number, offset, source, said, *numbers = line.split()
+    reader, takes = READERS[asked_reader]
     kind_number, offset, source = int(kind_number), int(offset), from_hexadecimal(source)
+    answer = reader
+    if reader == "name":
+        token = SIGILS.get(kind_number)
+        answer, takes = f"name of an {token}" if token else NAMED[-1], f"{takes} Sigil.{token}"
     asked = f"(Reader.{reader}) {kind(kind_number)}"
     if said == "other-kind":
-        proof = f"λ (t : Takes {asked}). elim t [ ]"
-        return Row(line, reader, f"Takes {asked} → ⊥", proof, column="31", shown=repr(source))
+        proof = other_kind(reader, kind(kind_number))
+        return Row(line, answer, f"Takes {asked} → ⊥", proof, column="31", shown=repr(source))
     left = from_hexadecimal(numbers[-1]) if numbers else b""
     copied = left
     if said == "absent":
@@ -149,4 +179,8 @@ def reader_row(line):
     if said == "22":
         reads, proof = f"(evidence.CheckIsRight → {reads})", f"λ right. {proof}"
     statement = f"Takes {asked} × {reads} × (found {offset} {value} ≡ {place}) × (needs {value} ≡ {listed(copied)})"
-    return Row(line, reader, statement, f"(Takes.{takes}, {proof}, refl, refl)", column=said, shown=repr(source))
+    proof = f"Takes.{takes}, {proof}, refl, refl"
+    if reader == "name":
+        called, why = name_call(kind_number, offset, len(source), place)
+        statement, proof = f"{statement} × {called}", f"{proof}, {why}"
+    return Row(line, answer, statement, f"({proof})", column=said, shown=repr(source))

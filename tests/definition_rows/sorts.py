@@ -9,8 +9,8 @@ import subprocess
 from collections.abc import Callable
 
 from . import computed
-from .readers import reader_row
-from .terms import ERRORS, KINDS, NAMES, READERS, SETTINGS
+from .readers import READ, reader_row
+from .terms import ERRORS, KINDS, NAMES, SETTINGS
 from .words import WORDED, word_rows
 
 PROJECT = pathlib.Path(__file__).resolve().parent.parent.parent
@@ -48,9 +48,12 @@ READER_IMPORTS = """\
 use Rattle.wat.specs.declared.Refusal.the-variants.{Lexical}
 use Rattle.wat_values.specs.declared.FloatPart.the-variants as the
 use Rattle.wat_values.specs.declared.Reading.the-variants as reading
+use Rattle.wat_values.specs.declared.NameKind.{NameKind}
+use Rattle.wat_values.specs.declared.NameKind.the-variants as whose
+use Rattle.wat_values.specs.declared.NameReading.the-variants as named
 use Rattle.wat.specs.Numbers.{Digits, Signed, Fraction, Exponent}
-use Rattle.wat_values.specs.Values.{Reader, Takes, part, copy, absent, refused, Name, Reads}
-use Rattle.wat_values.specs.Reading.{found, needs}
+use Rattle.wat_values.specs.Values.{Reader, Sigil, Takes, part, copy, absent, refused, Name, Reads}
+use Rattle.wat_values.specs.Reading.{found, needs, Read, ReadsName}
 use Rattle.evidence.specs.Evidence as evidence
 """
 WORD_IMPORTS = """\
@@ -250,7 +253,7 @@ SORTS = [
         of_line={"readers": reader_row},
         imports=READER_IMPORTS,
         opened=READER_OPENED,
-        answers=[name for name, _ in READERS],
+        answers=READ,
         columns=["part", "copy", "absent", "22", "23", "24", "31"],
         needs="wat wat_values evidence",
         computed=False,

@@ -57,18 +57,19 @@ REFUSALS = {
 }
 # a full list (rule 10), which is no refusal of the definitions
 FULL = {33: "listFull"}
-# the readers by their numbers, and what `Takes` calls the kinds that they take
-READERS = [
-    ("src", "any"),
-    ("string", "a-string"),
-    ("id", "an-id"),
-    ("annotation", "an-annotation"),
-    ("digits", "an-integer"),
-    ("float the.Integral", "a-float"),
-    ("float the.Fraction", "a-float"),
-    ("float the.Exponent", "a-float"),
-    ("float the.Payload", "a-float"),
-]
+# the readers by the oracle's words for them, and what `Takes` calls the kinds that they take
+READERS = {
+    "0": ("src", "any"),
+    "1": ("string", "a-string"),
+    "name": ("name", "a-name"),
+    "4": ("digits", "an-integer"),
+    "5": ("float the.Integral", "a-float"),
+    "6": ("float the.Fraction", "a-float"),
+    "7": ("float the.Exponent", "a-float"),
+    "8": ("float the.Payload", "a-float"),
+}
+# what `Sigil` calls the tokens that have a name, by their kinds
+SIGILS = {7: "id", 9: "annotation"}
 
 
 def listed(items):

@@ -4,15 +4,17 @@
 use crate::compare::{self, CANARY, MARGIN, Refusals, shown};
 use crate::forms;
 use crate::integers;
+use crate::names;
 use crate::ours::{self as c, Found, Listed, Reading, Refused, Words};
 use crate::{places, reading};
 use oracle::lexer as wast;
 use oracle::listing::RECORD;
 use oracle::texts::Texts;
 use oracle::token::Span;
+use oracle::values;
 use oracle::{Answer, Oracle, Settings as Asking};
 use std::borrow::Cow;
-use thallusweb::lexer::{self as ours, LexError, Reader};
+use thallusweb::lexer::{self as ours, LexError, Name, Reader};
 use thallusweb::{Error, Place, Refusal, Settings};
 
 /// How many tokens and errors of one text are asked for: `iter` may repeat an error for ever.
@@ -39,11 +41,9 @@ const DOUBLE: &str = "two underscores in a row in a numeric literal";
 const READERS_LEX_WITH: Asking = Asking { allow_confusing: true, strict_digits: false };
 
 /// The readers, in the order of their numbers.
-const READERS: [Reader; 9] = [
+const READERS: [Reader; values::READERS.len()] = [
     Reader::Src,
     Reader::String,
-    Reader::Id,
-    Reader::Annotation,
     Reader::Integer,
     Reader::Integral,
     Reader::Fraction,
@@ -155,6 +155,61 @@ pub fn values(text: &str, token: Words) -> u64 {
     4
 }
 
+/// What a reader's two calls would have to say of what the bindings read in a text: copies are those of a buffer that was filled.
+fn reading(text: &[u8], buffer: &[u8], read: Result<Option<Cow<[u8]>>, Error>) -> Reading {
+    match read {
+        Ok(None) => Reading::Absent,
+        Ok(Some(Cow::Borrowed(part))) => {
+            let start = part.as_ptr().addr().wrapping_sub(text.as_ptr().addr());
+            Reading::Text { start: start as u64, len: part.len() as u64 }
+        }
+        Ok(Some(Cow::Owned(copy))) => {
+            assert_eq!(Some(&copy[..]), buffer.get(..copy.len()), "bindings, a copy of {}", shown(text));
+            Reading::Buffer { start: 0, len: copy.len() as u64 }
+        }
+        Err(error) => Reading::Refused(refused(&error)),
+    }
+}
+
+fn into_bytes(text: Cow<str>) -> Cow<[u8]> {
+    match text {
+        Cow::Borrowed(part) => Cow::Borrowed(part.as_bytes()),
+        Cow::Owned(copy) => Cow::Owned(copy.into_bytes()),
+    }
+}
+
+/// The name of a token of any kind, by the one call, which the C call is held to, and by wast's two, which refuse by 31 what is there and
+/// of another kind than theirs. Answers how many answers there were.
+pub fn names(text: &str, token: Words) -> u64 {
+    let [kind, offset, len] = token;
+    let of = ours::Token {
+        kind: ours::TokenKind::from_number(kind).expect("a kind"),
+        offset: offset as usize,
+        len: len as u32,
+    };
+    let asked = || format!("bindings, the name of {token:?} in {}", shown(text.as_bytes()));
+    let mut buffer = vec![CANARY; len as usize];
+    let expected = names::expected(text.as_bytes(), token, &mut buffer);
+    let told =
+        |name: Result<Cow<str>, Error>| reading(text.as_bytes(), &buffer, name.map(|name| Some(into_bytes(name))));
+    let name = of.name(text);
+    let whose = match &name {
+        Ok(Name::Id(_)) => c::c::KIND_ID,
+        Ok(Name::Annotation(_)) => c::c::KIND_ANNOTATION,
+        Err(_) => 0,
+    };
+    if let Ok(name) = &name {
+        assert_eq!(name.as_str(), name.clone().into_text(), "{}", asked());
+    }
+    assert_eq!((told(name.map(Name::into_text)), whose), expected, "{}", asked());
+    let wrong = reading::there(text.as_bytes(), token).err().unwrap_or(reading::nowhere(31));
+    for (takes, name) in [(c::c::KIND_ID, of.id(text)), (c::c::KIND_ANNOTATION, of.annotation(text))] {
+        let expected = if takes == kind { expected.0 } else { Reading::Refused(wrong) };
+        assert_eq!(told(name), expected, "{}, as one of {takes}", asked());
+    }
+    3
+}
+
 /// A counter that was moved over some bytes.
 fn place(bytes: &[u8]) -> Place {
     let mut place = Place::new();
@@ -223,30 +278,19 @@ impl Asked<'_> {
         }
     }
 
-    /// Every reader of a token that is there, and of the same bytes under another kind, and the value.
+    /// Every reader of a token that is there, and of the same bytes under another kind, the name and the value.
     fn readings(&self, token: ours::Token) -> u64 {
         let text = self.text.as_bytes();
         let other = if token.kind == ours::TokenKind::String { ours::TokenKind::Id } else { ours::TokenKind::String };
         let mut count = 0;
         for token in [token, ours::Token { kind: other, ..token }] {
             let words = [token.kind.number(), token.offset as u64, token.len.into()];
-            count += values(self.text, words);
-            for (number, reader) in READERS.into_iter().enumerate() {
+            count += values(self.text, words) + names(self.text, words);
+            for (number, reader) in values::READERS.into_iter().zip(READERS) {
                 count += 1;
                 let mut buffer = vec![CANARY; token.len as usize];
                 let expected = reading::expected_reading(text, number as u64, words, &mut buffer);
-                let answer = match token.read(self.text, reader) {
-                    Ok(None) => Reading::Absent,
-                    Ok(Some(Cow::Borrowed(part))) => {
-                        let start = part.as_ptr().addr().wrapping_sub(text.as_ptr().addr());
-                        Reading::Text { start: start as u64, len: part.len() as u64 }
-                    }
-                    Ok(Some(Cow::Owned(copy))) => {
-                        assert_eq!(Some(&copy[..]), buffer.get(..copy.len()), "{}", self.of("a copy"));
-                        Reading::Buffer { start: 0, len: copy.len() as u64 }
-                    }
-                    Err(error) => Reading::Refused(refused(&error)),
-                };
+                let answer = reading(text, &buffer, token.read(self.text, reader));
                 assert_eq!(answer, expected, "{} {token:?}, {reader:?}", self.of("the reading"));
             }
         }

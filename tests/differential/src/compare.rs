@@ -1,10 +1,11 @@
 //! One text, asked of both sides in every way: at every position, with the settings, each alone in the settings word and beside
-//! ignored bits, listed with small and large budgets and lists; `reading.rs`, `places.rs` and `forms.rs` ask the rest. What
+//! ignored bits, listed with small and large budgets and lists; `reading.rs`, `names.rs`, `places.rs` and `forms.rs` ask the rest. What
 //! docs/RULES.md adds to the Rust, the refusals 1 to 4 and 25, is expected by its rule.
 
 use crate::bindings;
 use crate::ours::{self, Found, Listed, Refused, Stop};
 use oracle::listing::{self, RECORD};
+use oracle::names::Sort;
 use oracle::texts::Texts;
 use oracle::{Answer, Fault, Oracle, Settings};
 use std::collections::BTreeMap;
@@ -41,6 +42,13 @@ pub struct Counts {
     pub list_refusals: Refusals,
     /// refusals of the bindings, by the call
     pub item_refusals: [Refusals; bindings::CALLS.len()],
+    /// answers of the call for names
+    pub namings: u64,
+    pub name_refusals: Refusals,
+    /// the tokens among these that have a name: of ids and of annotations, by the sort of the name
+    pub named: [[u64; Sort::ALL.len()]; 2],
+    /// texts that were asked for the names in front of them
+    pub name_texts: u64,
     /// literals of integers that were asked for their own sake
     pub literals: u64,
     /// values of integers
@@ -163,6 +171,10 @@ impl Counts {
             annotation_refusals,
             list_refusals,
             item_refusals,
+            namings,
+            name_refusals,
+            named,
+            name_texts,
             literals,
             values,
             value_refusals,
@@ -184,6 +196,11 @@ impl Counts {
         self.items += items;
         self.strictly += strictly;
         self.escapes += escapes;
+        self.namings += namings;
+        self.name_texts += name_texts;
+        for (sum, more) in self.named.iter_mut().flatten().zip(named.into_iter().flatten()) {
+            *sum += more;
+        }
         self.literals += literals;
         self.values += values;
         self.nests += nests;
@@ -192,6 +209,7 @@ impl Counts {
             (&mut self.refusals, refusals),
             (&mut self.annotation_refusals, annotation_refusals),
             (&mut self.list_refusals, list_refusals),
+            (&mut self.name_refusals, name_refusals),
             (&mut self.value_refusals, value_refusals),
             (&mut self.fold_refusals, fold_refusals),
         ];

@@ -53,11 +53,9 @@ const SETTINGS: [(&[u8], u64, u64, u64); 3] = [
 ];
 
 /// A token, a reader, and the bytes that it gives.
-const READERS: [(&str, u64, &str); 9] = [
+const READERS: [(&str, u64, &str); 7] = [
     ("-1.2e3", c::SRC, "-1.2e3"),
     ("\"a\"", c::STRING, "a"),
-    ("$a", c::ID, "a"),
-    ("@a", c::ANNOTATION, "a"),
     ("-1", c::INTEGER, "-1"),
     ("-1.2e3", c::INTEGRAL, "-1"),
     ("-1.2e3", c::FRACTION, "2"),
@@ -65,13 +63,24 @@ const READERS: [(&str, u64, &str); 9] = [
     ("nan:0x1", c::PAYLOAD, "1"),
 ];
 
-/// A token, a reader, the buffer's length, and by what it is refused.
-const MISREADINGS: [(&str, u64, usize, u64); 5] = [
-    ("$\"\\ff\"", c::ID, 1, c::INVALID_UTF8_ID),
-    ("$", c::ID, 0, c::EMPTY_ID),
-    ("@", c::ANNOTATION, 0, c::EMPTY_ANNOTATION),
-    ("$", c::ANNOTATION, 0, c::NOT_THAT_KIND),
+/// A token, a reader, the buffer's length, and by what it is refused. 2 and 3 are no reader's.
+const MISREADINGS: [(&str, u64, usize, u64); 4] = [
+    ("$", c::STRING, 0, c::NOT_THAT_KIND),
+    ("$a", 2, 0, c::NOT_THAT_KIND),
+    ("@a", 3, 0, c::NOT_THAT_KIND),
     ("\"\\ff\"", c::STRING, 0, c::BUFFER_TOO_SHORT),
+];
+
+/// A token that has a name, and its kind; the name is `a`.
+const NAMES: [(&str, u64); 2] = [("$a", c::KIND_ID), ("@a", c::KIND_ANNOTATION)];
+
+/// A token, the buffer's length, and by what its name is refused.
+const MISNOMERS: [(&str, usize, u64); 5] = [
+    ("$\"\\ff\"", 1, c::INVALID_UTF8_ID),
+    ("$", 0, c::EMPTY_ID),
+    ("@", 0, c::EMPTY_ANNOTATION),
+    ("a", 0, c::NOT_THAT_KIND),
+    ("@\"\\61\"", 0, c::BUFFER_TOO_SHORT),
 ];
 
 /// The token that a text is, as words.
@@ -120,6 +129,14 @@ pub fn holds() {
     for (text, reader, room, number) in MISREADINGS {
         let reading = ours::read(text.as_bytes(), reader, token(text), &mut [0; 1][..room]);
         assert_eq!(refusal(reading), Some(number), "the header's refusal of reader {reader} of {text:?}");
+    }
+    for (text, kind) in NAMES {
+        let name = (Reading::Text { start: 1, len: 1 }, kind);
+        assert_eq!(ours::name(text.as_bytes(), token(text), &mut []), name, "the header's name of {text:?}");
+    }
+    for (text, room, number) in MISNOMERS {
+        let (name, kind) = ours::name(text.as_bytes(), token(text), &mut [0; 1][..room]);
+        assert_eq!((refusal(name), kind), (Some(number), 0), "the header's refusal of the name of {text:?}");
     }
     let other = ours::read(b"a", c::SRC, [c::KIND_KEYWORD, 0, 2], &mut []);
     assert_eq!(refusal(other), Some(c::NOT_THAT_TOKEN), "the header's refusal of a token that is not there");

@@ -6,12 +6,14 @@ mod escapes;
 mod forms;
 mod header;
 mod integers;
+mod names;
 mod ours;
 mod places;
 mod reading;
 
 use compare::Counts;
 use oracle::Settings;
+use oracle::names::Sort;
 use oracle::texts::{Texts, every};
 use std::process::ExitCode;
 use std::sync::atomic::{AtomicU64, Ordering};
@@ -23,10 +25,10 @@ differential: Thallusweb against the Rust original
 
   differential [--bytes N] [--symbols N] [--random N] [--seed S]
       --bytes N     every byte string of up to N bytes (default 2)
-      --symbols N   every text of up to N symbols of a telling alphabet, every literal of an integer of up to N
-                    parts, every escape \\u{..} of up to N + 1 parts, every nest of forms of up to N + 2 symbols, and
-                    every string of up to N + 3 bytes that are a CR, a LF or another (default 4)
-      --random N    so many random texts, whole, cut and damaged, random byte strings, literals of integers, and
+      --symbols N   every text of up to N symbols of a telling alphabet, every name and every literal of an integer of
+                    up to N parts, every escape \\u{..} of up to N + 1 parts, every nest of forms of up to N + 2
+                    symbols, and every string of up to N + 3 bytes that are a CR, a LF or another (default 4)
+      --random N    so many random texts, whole, cut and damaged, random byte strings, names, literals of integers, and
                     byte strings with line ends, and a fifth as many nests of forms (default 100000)
       --seed S      of the random texts (default 1)
 ";
@@ -43,7 +45,8 @@ const MOST_OF_BINDINGS: usize = 3;
 /// One in so many random texts is followed by two long ones, of which more is alike than is looked at together.
 const LONG_ONES: usize = 5;
 
-/// So many random texts, or more, must have every answer for a form's end among them, and 25 of every call that lexes.
+/// So many random texts, or more, must have every answer for a form's end among them, names of every sort, each refusal of one, and 25 of
+/// every call that lexes.
 const ENOUGH: u64 = 5_000;
 
 /// The texts are shared out in so many parts, each with random numbers of its own, and the threads take one after the other: what is compared
@@ -128,10 +131,25 @@ fn share(options: &Options, which: u64) -> Counts {
         }
     }
     counts.escapes((which, SHARES), options.symbols);
+    counts.name_texts((which, SHARES), options.symbols, options.random, options.seed);
     counts.literals((which, SHARES), options.symbols, options.random, options.seed);
     counts.nests((which, SHARES), options.symbols, options.random, options.seed);
     counts.line_ends((which, SHARES), options.symbols, options.random, options.seed);
     counts
+}
+
+/// Prints how many names of each sort were met.
+fn told_names(whose: &str, named: [u64; Sort::ALL.len()]) {
+    let sorts = Sort::ALL.map(|sort| match sort {
+        Sort::Word => "words",
+        Sort::Plain => "quoted",
+        Sort::Escaped => "with escapes",
+        Sort::Wrong => "not UTF-8",
+        Sort::Nothing => "empty",
+        Sort::QuotedNothing => "empty in quotes",
+    });
+    let seen = sorts.iter().zip(named).map(|(sort, count)| format!("{count} {sort}"));
+    println!("{} {whose} among these: {}", named.iter().sum::<u64>(), seen.collect::<Vec<_>>().join(", "));
 }
 
 /// Prints how often each refusal was met.
@@ -151,6 +169,7 @@ fn main() -> ExitCode {
     limits(&mut counts);
     integers::limits(&mut counts);
     escapes::limits();
+    names::limits();
     forms::limits();
     bindings::limits();
     let next = AtomicU64::new(0);
@@ -181,6 +200,13 @@ fn main() -> ExitCode {
     println!(
         "{moves} moves of the place counter agree, {full} of them refused, over these tokens and {strings} strings with line ends"
     );
+    println!(
+        "{} answers for names agree, of these tokens and of {} texts with names",
+        counts.namings, counts.name_texts
+    );
+    let [ids, annotations] = counts.named;
+    told_names("ids", ids);
+    told_names("annotations", annotations);
     println!("{} values of integers agree, of these tokens and of {} literals", counts.values, counts.literals);
     let ends = counts.folds - counts.fold_refusals.values().sum::<u64>();
     println!(
@@ -194,6 +220,9 @@ fn main() -> ExitCode {
         assert!(ends > 0, "no form ends");
         let met = |number: &u64| counts.fold_refusals.contains_key(number);
         assert!(forms::REFUSALS.iter().all(met), "of a form's end not all refusals: {:?}", counts.fold_refusals);
+        assert!(counts.named.iter().flatten().all(|&count| count > 0), "not names of every sort");
+        let met = |number: &u64| counts.name_refusals.contains_key(number);
+        assert!(names::REFUSALS.iter().all(met), "of names not all refusals: {:?}", counts.name_refusals);
     }
     let lexing = [
         ("tokens and readers", counts.refusals),
@@ -208,6 +237,7 @@ fn main() -> ExitCode {
         let double = ours::c::DOUBLE_UNDERSCORE;
         assert!(options.random < ENOUGH || refusals.contains_key(&double), "of {what} none is refused by {double}");
     }
+    told("names", &counts.name_refusals);
     told("values of integers", &counts.value_refusals);
     ExitCode::SUCCESS
 }

@@ -155,6 +155,22 @@ pub fn read(text: &[u8], reader: u64, token: Words, buffer: &mut [u8]) -> Readin
     }
 }
 
+/// What the call for names answers, and its last word: the number of the kind that the name is of, 0 where there is none.
+pub fn name(text: &[u8], token: Words, buffer: &mut [u8]) -> (Reading, u64) {
+    let call = |out| unsafe {
+        let (buffer, room) = (buffer.as_mut_ptr(), buffer.len());
+        c::thallusweb_name(text.as_ptr(), text.len(), &token, buffer, room, out)
+    };
+    match words::<{ c::NAME_WORDS as usize }>(call) {
+        [c::IN_TEXT, start, len, 0, 0, kind] => (Reading::Text { start, len }, kind),
+        [c::REFUSED, number, place, first, second, kind] => {
+            (Reading::Refused(Refused { number, values: [first, second], place }), kind)
+        }
+        [c::IN_BUFFER, start, len, 0, 0, kind] => (Reading::Buffer { start, len }, kind),
+        other => panic!("no name has the words {other:?}"),
+    }
+}
+
 /// The second call, for any words as the first call's answer.
 pub fn part(text: &[u8], buffer: &[u8], answer: [u64; 5]) -> [u64; 3] {
     let (room, len) = (buffer.len(), text.len());

@@ -24,17 +24,23 @@ pub fn there<'a>(bytes: &'a [u8], [kind, offset, len]: Words) -> Result<(Oracle<
 }
 
 pub fn expected_reading(bytes: &[u8], reader: u64, token: Words, buffer: &mut [u8]) -> Reading {
-    let (oracle, token) = match there(bytes, token) {
-        Err(refused) => return Reading::Refused(refused),
-        Ok(there) => there,
-    };
+    match there(bytes, token) {
+        Err(refused) => Reading::Refused(refused),
+        Ok((oracle, token)) => {
+            handed(Value::read(&oracle, usize::try_from(reader).unwrap_or(NO_READER), &token), buffer)
+        }
+    }
+}
+
+/// A value handed over: 31, then 32, then 22 to 24.
+pub fn handed(value: Value, buffer: &mut [u8]) -> Reading {
     let mut copied = |bytes: &[u8]| {
         let room = buffer.get_mut(..bytes.len())?;
         room.copy_from_slice(bytes);
         Some(())
     };
     let short = Reading::Refused(nowhere(32));
-    match Value::read(&oracle, usize::try_from(reader).unwrap_or(NO_READER), &token) {
+    match value {
         Value::OtherKind => Reading::Refused(nowhere(31)),
         Value::Absent => Reading::Absent,
         Value::Part { start, len } => Reading::Text { start: start as u64, len: len as u64 },
@@ -55,7 +61,8 @@ fn expected_part(text: &[u8], buffer: &[u8], answer: [u64; 5]) -> [u64; 3] {
 }
 
 impl Counts {
-    /// Every reader of a token, with a buffer as long as the token, with one that may be too short, and of the token alone.
+    /// Every reader of a token, and numbers that no reader has, with a buffer as long as the token, with one that may be too short, and of
+    /// the token alone; its name, signs and values, and the place counter over it.
     pub fn readers(&mut self, bytes: &[u8], token: Words, chance: &mut Texts) {
         let [kind, offset, len] = token;
         let own = (offset as usize).checked_add(len as usize).and_then(|end| bytes.get(offset as usize..end));
@@ -66,6 +73,7 @@ impl Counts {
                 self.reading(own, reader, [kind, 0, len], own.len());
             }
         }
+        self.names(bytes, token, chance);
         let expected = there(bytes, token).and_then(|(oracle, token)| match oracle.integer(&token) {
             None => Err(nowhere(31)),
             Some(integer) => Ok(Some(match integer.sign {
@@ -99,16 +107,21 @@ impl Counts {
         assert_eq!(reading, expected, "{}", asked());
         assert!(buffer == expected_buffer, "bytes of the buffer: {}", asked());
         self.readings += 1;
+        if let Reading::Refused(refused) = reading {
+            *self.refusals.entry(refused.number).or_default() += 1;
+        }
+        self.second(bytes, &buffer[MARGIN..MARGIN + room], reading);
+    }
+
+    /// Compares the second call for what a first one answered.
+    pub fn second(&mut self, text: &[u8], buffer: &[u8], reading: Reading) {
         let answer = match reading {
             Reading::Absent => [0; 5],
             Reading::Text { start, len } => [1, start, len, 0, 0],
             Reading::Buffer { start, len } => [3, start, len, 0, 0],
-            Reading::Refused(refused) => {
-                *self.refusals.entry(refused.number).or_default() += 1;
-                [2, refused.number, refused.place, refused.values[0], refused.values[1]]
-            }
+            Reading::Refused(Refused { number, values, place }) => [2, number, place, values[0], values[1]],
         };
-        self.part(bytes, &buffer[MARGIN..MARGIN + room], answer);
+        self.part(text, buffer, answer);
     }
 
     pub fn part(&mut self, text: &[u8], buffer: &[u8], answer: [u64; 5]) {
@@ -163,6 +176,7 @@ impl Counts {
         let token = [kind, wide(chance, bytes.len() + 2), wide(chance, bytes.len() + 2)];
         let reader = wide(chance, 12);
         self.reading(bytes, reader, token, chance.below(9));
+        self.name(bytes, token, chance.below(9));
         self.values(bytes, token);
         let buffer = vec![CANARY; chance.below(9)];
         let answer = [wide(chance, 5), wide(chance, 9), wide(chance, 9), wide(chance, 9), wide(chance, 9)];

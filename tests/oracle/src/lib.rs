@@ -25,6 +25,7 @@ pub mod forms;
 pub mod integers;
 pub mod listing;
 pub mod literals;
+pub mod names;
 pub mod nests;
 pub mod numbers;
 pub mod places;

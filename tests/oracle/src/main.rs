@@ -54,6 +54,7 @@ oracle: what the Rust original says of texts, in the numbers of docs/RULES.md
           READER KIND OFFSET BYTES copy BYTES
           READER KIND OFFSET BYTES refused NUMBER DATA DATA PLACE COPIED
           READER KIND OFFSET BYTES other-kind
+          READER is its number, or name
 ";
 
 /// The longest input that `wat-tokens` takes.

@@ -57,18 +57,14 @@ impl<'a> Oracle<'a> {
         }
     }
 
-    pub fn id(&self, token: &Token) -> Option<Result<Cow<'a, str>, Fault>> {
-        match token.0.kind {
-            TokenKind::Id => Some(token.0.id(self.text()).map_err(Fault::from)),
-            _ => None,
-        }
-    }
-
-    pub fn annotation_name(&self, token: &Token) -> Option<Result<Cow<'a, str>, Fault>> {
-        match token.0.kind {
-            TokenKind::Annotation => Some(token.0.annotation(self.text()).map_err(Fault::from)),
-            _ => None,
-        }
+    /// The name of an Id or of an Annotation, by the original's reader for that kind.
+    pub fn name(&self, token: &Token) -> Option<Result<Cow<'a, str>, Fault>> {
+        let name = match token.0.kind {
+            TokenKind::Id => token.0.id(self.text()),
+            TokenKind::Annotation => token.0.annotation(self.text()),
+            _ => return None,
+        };
+        Some(name.map_err(Fault::from))
     }
 
     pub fn integer(&self, token: &Token) -> Option<Integer<'a>> {

@@ -1,9 +1,10 @@
 //! Answers of the Rust, recorded for the program of crates/replay; the first comment of crates/replay_rows has the layout of a row.
 
 use oracle::listing::Stop;
+use oracle::names;
 use oracle::readers::Token;
 use oracle::texts::Texts;
-use oracle::values::{NO_READER, Value};
+use oracle::values::{NO_READER, RETIRED, Value};
 use oracle::{Answer, Fault, Oracle, Settings, numbers, utf8};
 use std::collections::BTreeMap;
 
@@ -37,9 +38,9 @@ impl Recorded {
         Recorded { numbers: [1, kind.into(), offset, len as usize, 0, 0, 0], ..Recorded::default() }
     }
 
-    /// A part of the text, 1, or of the buffer, 3.
-    fn part(what: usize, start: usize, len: usize) -> Recorded {
-        Recorded { numbers: [what, start, len, 0, 0, 0, 0], ..Recorded::default() }
+    /// A part of the text, 1, or of the buffer, 3; of a name, the kind of token that has it.
+    fn part(what: usize, start: usize, len: usize, whose: usize) -> Recorded {
+        Recorded { numbers: [what, start, len, 0, 0, 0, whose], ..Recorded::default() }
     }
 }
 
@@ -142,28 +143,41 @@ impl Question<'_> {
     }
 }
 
-/// A reader's first call.
+/// What is asked of a token.
+#[derive(Clone, Copy)]
+enum Call {
+    /// a reader's first call
+    Reader(usize),
+    Name,
+}
+
 struct Reading<'a> {
     bytes: &'a [u8],
-    reader: usize,
+    call: Call,
     kind: usize,
     offset: usize,
     len: usize,
     room: usize,
 }
 
+/// Kind and length of the token at an offset, or any.
+fn token_at(bytes: &[u8], offset: usize, chance: &mut Texts) -> (usize, usize) {
+    let found = match text_at(bytes, offset) {
+        Ok(text) => Oracle::new(text, true).parse(offset).0,
+        Err(_) => Answer::End,
+    };
+    match found {
+        Answer::Token(token) => (token.kind().into(), token.len() as usize),
+        _ => (1 + chance.below(15), chance.below(bytes.len() + 1)),
+    }
+}
+
 impl<'a> Reading<'a> {
-    /// Of a token that is there, most often by a reader that takes its kind; now and then of one that nobody gave.
+    /// Of a token that is there, most often by a reader that takes its kind, or took it; now and then of one that nobody
+    /// gave.
     fn any(bytes: &'a [u8], chance: &mut Texts) -> Reading<'a> {
         let mut offset = if chance.below(2) == 0 { 0 } else { chance.boundary(&String::from_utf8_lossy(bytes)) };
-        let found = match text_at(bytes, offset) {
-            Ok(text) => Oracle::new(text, true).parse(offset).0,
-            Err(_) => Answer::End,
-        };
-        let (mut kind, mut len) = match found {
-            Answer::Token(token) => (token.kind().into(), token.len() as usize),
-            _ => (1 + chance.below(15), chance.below(bytes.len() + 1)),
-        };
+        let (mut kind, mut len) = token_at(bytes, offset, chance);
         match chance.below(24) {
             0 => kind ^= 1 << chance.below(17),
             1 => offset = chance.below(bytes.len() + 3),
@@ -172,8 +186,8 @@ impl<'a> Reading<'a> {
         }
         let taking: &[usize] = match kind & 0xff {
             6 => &[1],
-            7 => &[2],
-            9 => &[3],
+            7 => &RETIRED[..1],
+            9 => &RETIRED[1..],
             11 => &[4],
             12..=15 => &[5, 6, 7, 8],
             _ => &[0],
@@ -185,7 +199,34 @@ impl<'a> Reading<'a> {
             1 => chance.below(len + 1),
             _ => chance.below(LENT + 1),
         };
-        Reading { bytes, reader, kind, offset, len, room }
+        Reading { bytes, call: Call::Reader(reader), kind, offset, len, room }
+    }
+
+    /// The name of the token at an offset, with a buffer that just holds a copy, that just does not, or another; now and
+    /// then of a token that nobody gave, the other of the two that have a name among these.
+    fn name(bytes: &'a [u8], mut offset: usize, chance: &mut Texts) -> Reading<'a> {
+        let (mut kind, mut len) = token_at(bytes, offset, chance);
+        let there = Reading { bytes, call: Call::Name, kind, offset, len, room: LENT };
+        let copied = match there.there().map(|(oracle, token)| Value::name(&oracle, &token)) {
+            Ok(Value::Copy(bytes) | Value::Fault(_, bytes)) => bytes.len(),
+            _ => 0,
+        };
+        let room = match chance.below(6) {
+            0 => copied,
+            1 => copied.saturating_sub(1),
+            2 => copied + 1,
+            3 => len,
+            4 => chance.below(copied + 1),
+            _ => chance.below(LENT + 1),
+        };
+        match chance.below(16) {
+            0..=2 if kind == 7 || kind == 9 => kind = 16 - kind,
+            3 => kind ^= 1 << chance.below(17),
+            4 => offset = chance.below(bytes.len() + 3),
+            5 => len = chance.below(bytes.len() + 3),
+            _ => {}
+        }
+        Reading { kind, offset, len, room: room.min(LENT), ..there }
     }
 
     fn refused(number: u8) -> Recorded {
@@ -208,13 +249,17 @@ impl<'a> Reading<'a> {
             Err(refused) => return refused,
             Ok(there) => there,
         };
-        let (bytes, answer) = match Value::read(&oracle, self.reader, &token) {
+        let (value, whose) = match self.call {
+            Call::Reader(reader) => (Value::read(&oracle, reader, &token), 0),
+            Call::Name => (Value::name(&oracle, &token), token.kind().into()),
+        };
+        let (bytes, answer) = match value {
             Value::Absent => return Recorded::default(),
             Value::OtherKind => return Reading::refused(31),
-            Value::Part { start, len } => return Recorded::part(1, start, len),
+            Value::Part { start, len } => return Recorded::part(1, start, len, whose),
             Value::Copy(bytes) => {
                 let len = bytes.len();
-                (bytes, Recorded::part(3, 0, len))
+                (bytes, Recorded::part(3, 0, len, whose))
             }
             Value::Fault(fault, bytes) => (bytes, Recorded::fault(fault)),
         };
@@ -237,7 +282,11 @@ impl<'a> Reading<'a> {
     }
 
     fn row(&self, answer: &Recorded) -> Vec<u8> {
-        let head = [4, self.reader as u8, self.bytes.len() as u8, self.room as u8];
+        let (kind, reader) = match self.call {
+            Call::Reader(reader) => (4, reader as u8),
+            Call::Name => (5, 0),
+        };
+        let head = [kind, reader, self.bytes.len() as u8, self.room as u8];
         row(head, [self.offset, self.kind], answer, self.bytes)
     }
 }
@@ -263,12 +312,28 @@ fn any_text(chance: &mut Texts) -> Vec<u8> {
     }
 }
 
-/// Rows for random texts and byte strings: five of seven are of lexing, the rest of readers. Then rows that must differ.
+/// An Id or an Annotation, or what misses one, alone or between other tokens, and where it begins; one in twelve is another
+/// text, and one in twelve no UTF-8.
+fn any_name(chance: &mut Texts) -> (Vec<u8>, usize) {
+    let before = ["", "", "", "(", "é", ";;é\n"][chance.below(6)];
+    let behind = ["", "", ")", " $x", "(;", "\""][chance.below(6)];
+    let mut text = format!("{before}{}{behind}", names::random(chance)).into_bytes();
+    match chance.below(12) {
+        0 => return (chance.text(TEXT).into_bytes(), 0),
+        1 => text.push(0xff),
+        _ => {}
+    }
+    if text.len() <= TEXT { (text, before.len()) } else { any_name(chance) }
+}
+
+/// Rows for random texts and byte strings: five of seven are of lexing, one in 14 of names, the rest of readers. Then rows
+/// that must differ.
 pub fn rows(rows: usize, seed: u64) -> Vec<u8> {
-    let readings = rows * 2 / 7;
+    let (readings, names) = (rows * 3 / 14, rows / 14);
     let mut chance = Texts::new(seed);
-    let mut out = lexing_rows(rows - readings, &mut chance);
+    let mut out = lexing_rows(rows - readings - names, &mut chance);
     out.extend(reading_rows(readings, &mut chance));
+    out.extend(name_rows(names, &mut chance));
     out.extend(damaged_rows(&out));
     out
 }
@@ -277,7 +342,15 @@ pub fn rows(rows: usize, seed: u64) -> Vec<u8> {
 /// type has 128 added. Of each type three rows for each number, and for the first and the last byte of what else is compared.
 fn damaged_rows(rows: &[u8]) -> Vec<u8> {
     let mut out = Vec::new();
-    for (kind, numbers, lent) in [(1, 6, false), (2, 5, false), (3, 7, true), (4, 5, true)] {
+    // the numbers of a row's answer that are compared: of types 4 and 5 the sixth is asked
+    let compared: [(u8, &[usize], bool); 5] = [
+        (1, &[0, 1, 2, 3, 4, 5], false),
+        (2, &[0, 1, 2, 3, 4], false),
+        (3, &[0, 1, 2, 3, 4, 5, 6], true),
+        (4, &[0, 1, 2, 3, 4], true),
+        (5, &[0, 1, 2, 3, 4, 6], true),
+    ];
+    for (kind, numbers, lent) in compared {
         let of_kind: Vec<_> = rows.chunks_exact(ROW).filter(|row| row[0] == kind).collect();
         let told: Vec<_> = of_kind.iter().copied().filter(|row| row[40] != 0).collect();
         let mut damage = |rows: &[&[u8]], at: usize| {
@@ -289,7 +362,7 @@ fn damaged_rows(rows: &[u8]) -> Vec<u8> {
                 out.extend(row);
             }
         };
-        for number in 0..numbers {
+        for number in numbers {
             damage(&of_kind, 12 + 4 * number);
         }
         if lent {
@@ -340,21 +413,44 @@ fn lexing_rows(rows: usize, chance: &mut Texts) -> Vec<u8> {
     out
 }
 
-/// No answer is recorded more often than one in 35: a value by the reader and by where its bytes are, a refusal by its
-/// number, and 22 to 24 and 32 by the reader too.
+/// No answer is recorded more often than one in 26: a value by the reader and by where its bytes are, a refusal by its
+/// number, 32 by the reader too, and 31 apart for the numbers that were readers'.
 fn reading_rows(rows: usize, chance: &mut Texts) -> Vec<u8> {
     let mut seen = BTreeMap::new();
     let mut out = Vec::new();
     while out.len() / ROW < rows {
         let text = any_text(chance);
         let reading = Reading::any(&text, chance);
+        let Call::Reader(reader) = reading.call else { continue };
         let answer = reading.answer();
         let key = match answer.numbers {
+            [2, 31, ..] if RETIRED.contains(&reader) => [RETIRED[0], 31],
             [2, number @ (2..=4 | 30 | 31), ..] => [NO_READER, number],
-            [2, number, ..] => [reading.reader, number],
-            [what, ..] => [reading.reader, what],
+            [2, number, ..] => [reader, number],
+            [what, ..] => [reader, what],
         };
-        if wanted(&mut seen, key, rows / 35 + 1) {
+        if wanted(&mut seen, key, rows / 26 + 1) {
+            out.extend(reading.row(&answer));
+        }
+    }
+    out
+}
+
+/// No answer is recorded more often than one in twelve: a name by its token's kind and by where its bytes are, a refusal by
+/// its number, and 22 and 32 by the token's kind too.
+fn name_rows(rows: usize, chance: &mut Texts) -> Vec<u8> {
+    let mut seen = BTreeMap::new();
+    let mut out = Vec::new();
+    while out.len() / ROW < rows {
+        let (text, offset) = any_name(chance);
+        let reading = Reading::name(&text, offset, chance);
+        let answer = reading.answer();
+        let key = match answer.numbers {
+            [2, number @ (2..=4 | 30 | 31), ..] => [0, number],
+            [2, number, ..] => [reading.kind, number],
+            [what, ..] => [reading.kind, what],
+        };
+        if wanted(&mut seen, key, rows / 12 + 1) {
             out.extend(reading.row(&answer));
         }
     }

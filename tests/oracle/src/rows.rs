@@ -6,7 +6,7 @@ use oracle::listing::{RECORD, record};
 use oracle::places::Place;
 use oracle::strict::DOUBLE_UNDERSCORE;
 use oracle::texts::Texts;
-use oracle::values::{NO_READER, Value};
+use oracle::values::{NO_READER, READERS, Value};
 use oracle::{Answer, Oracle, Settings, numbers, places, utf8};
 use std::collections::{BTreeMap, HashSet};
 
@@ -206,8 +206,9 @@ fn records(chance: &mut Texts) -> (String, String) {
     (hexadecimal(text.as_bytes()) + &asked, format!("has {listed}"))
 }
 
-/// What readers leave of tokens. No answer is there more often than one in 24, by the reader and by what it answers, and
-/// 31 no more often than one in eight, so that the rare ones have their share.
+/// What readers leave of tokens, that of names for two of the others. No answer is there more often than one in 24, by the
+/// reader, of names by the kind, and by what it answers, and 31 no more often than one in eight, so that the rare ones have
+/// their share.
 fn readers(rows: usize, seed: u64) -> String {
     let mut chance = Texts::new(seed);
     let (mut seen, mut counts) = (HashSet::new(), BTreeMap::new());
@@ -217,9 +218,12 @@ fn readers(rows: usize, seed: u64) -> String {
         let oracle = Oracle::new(&text, true);
         let offset = if chance.below(3) == 0 { chance.boundary(&text) } else { 0 };
         let (Answer::Token(token), end) = oracle.parse(offset) else { continue };
-        let reader = chance.below(NO_READER);
+        let (reader, value, answered) = match READERS.get(chance.below(READERS.len() + 2)) {
+            Some(&reader) => (reader.to_string(), Value::read(&oracle, reader, &token), reader),
+            None => ("name".to_string(), Value::name(&oracle, &token), NO_READER + usize::from(token.kind())),
+        };
         let asked = format!("{reader} {} {offset} {}", token.kind(), hexadecimal(&text.as_bytes()[offset..end]));
-        let (answer, number) = match Value::read(&oracle, reader, &token) {
+        let (answer, number) = match value {
             Value::Absent => ("absent".to_string(), 0),
             Value::Part { start, len } => {
                 (format!("part {start} {}", hexadecimal(&text.as_bytes()[start..start + len])), 1)
@@ -233,7 +237,7 @@ fn readers(rows: usize, seed: u64) -> String {
             }
             Value::OtherKind => ("other-kind".to_string(), 31),
         };
-        let (key, most) = if number == 31 { ([NO_READER, 31], rows / 8) } else { ([reader, number], rows / 24) };
+        let (key, most) = if number == 31 { ([NO_READER, 31], rows / 8) } else { ([answered, number], rows / 24) };
         if !seen.contains(&asked) && wanted(&mut counts, key, most + 1) {
             out += &format!("{asked} {answer}\n");
             seen.insert(asked);

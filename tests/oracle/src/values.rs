@@ -1,12 +1,18 @@
-//! What the readers leave of a token, by their numbers (include/thallusweb.h), as rule 11 has it: a part of the text where the
-//! original's `Cow` is borrowed, a copy where it is owned.
+//! What the readers leave of a token, by their numbers (include/thallusweb.h), and the reader of names, which has none, as
+//! rule 11 has it: a part of the text where the original's `Cow` is borrowed, a copy where it is owned.
 
 use crate::readers::Token;
 use crate::{Answer, Fault, Oracle};
 use std::borrow::Cow;
 
-/// The number that no reader has; those below are readers.
+/// The numbers of the readers.
+pub const READERS: [usize; 7] = [0, 1, 4, 5, 6, 7, 8];
+
+/// The first number behind them, which no reader has.
 pub const NO_READER: usize = 9;
+
+/// Those of ids and of annotations before they had a call of their own: no reader has them.
+pub const RETIRED: [usize; 2] = [2, 3];
 
 /// What a reader leaves of a token.
 pub enum Value {
@@ -36,11 +42,14 @@ impl Value {
         }
     }
 
-    /// A name: what stands behind the first byte, decoded if it is quoted.
-    fn name(text: &str, token: &Token, name: Result<Cow<str>, Fault>) -> Value {
-        let fault = match name {
-            Ok(name) => return Value::spelling(text, name),
-            Err(fault) => fault,
+    /// What the original's reader for the token's kind leaves of an Id or of an Annotation: what stands behind the first
+    /// byte, decoded if it is quoted.
+    pub fn name(oracle: &Oracle, token: &Token) -> Value {
+        let text = oracle.text();
+        let fault = match oracle.name(token) {
+            None => return Value::OtherKind,
+            Some(Ok(name)) => return Value::spelling(text, name),
+            Some(Err(fault)) => fault,
         };
         let alone = Oracle::new(&text[token.offset() + 1..][..token.len() as usize - 1], true);
         let decoded = match alone.parse(0).0 {
@@ -56,8 +65,6 @@ impl Value {
         let value = match reader {
             0 => Some(Value::spelling(text, Cow::Borrowed(oracle.src(token)))),
             1 => oracle.string(token).map(|bytes| Value::bytes(text, bytes)),
-            2 => oracle.id(token).map(|name| Value::name(text, token, name)),
-            3 => oracle.annotation_name(token).map(|name| Value::name(text, token, name)),
             4 => oracle.integer(token).map(|integer| Value::spelling(text, integer.digits)),
             5..NO_READER => oracle.float(token).map(|float| {
                 let part = [float.integral, float.fraction, float.exponent, float.payload].into_iter().nth(reader - 5);

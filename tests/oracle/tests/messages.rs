@@ -131,7 +131,7 @@ fn messages_of_readers() {
         let oracle::Answer::Token(token) = oracle.parse(0).0 else {
             panic!("{text:?} is a token");
         };
-        let read = oracle.id(&token).or_else(|| oracle.annotation_name(&token)).unwrap();
+        let read = oracle.name(&token).unwrap();
         let fault = read.unwrap_err();
         assert_eq!(message(fault.number, fault.data).as_deref(), Some(told), "{text:?}");
     }

@@ -1,6 +1,6 @@
 //! The program: its output for `tokens` is that of `wat-tokens` (docs/RULES.md, 15).
 
-use std::collections::HashSet;
+use std::collections::{HashMap, HashSet};
 use std::io::Write;
 use std::process::{Command, Stdio};
 
@@ -144,6 +144,51 @@ fn recorded_settings() {
     }
     assert_eq!(settings.len(), 3 * 4);
     assert!(doubles[1..].iter().all(|count| *count > 10), "{doubles:?}");
+}
+
+/// A number of a recorded row.
+fn number(row: &[u8], at: usize) -> u32 {
+    u32::from_le_bytes(row[at..at + 4].try_into().unwrap())
+}
+
+/// Names are recorded of both tokens that have one, as parts of the text and as copies, and every refusal but 1, without a
+/// kind; and a damaged row for each of the words.
+#[test]
+fn recorded_names() {
+    let kept = std::fs::read("../../crates/replay/data/answers").unwrap();
+    let mut answers = HashMap::new();
+    for row in kept.chunks_exact(152).filter(|row| row[0] == 5) {
+        let [what, first, kind] = [12, 16, 36].map(|at| number(row, at));
+        *answers.entry((what, if what == 2 { first } else { kind })).or_insert(0) += 1;
+        assert_eq!(kind, if what == 2 { 0 } else { number(row, 8) }, "{row:?}");
+    }
+    let refusals = [2, 3, 4, 22, 23, 24, 30, 31, 32].map(|number| (2, number));
+    for answer in [(1, 7), (1, 9), (3, 7), (3, 9)].into_iter().chain(refusals) {
+        assert!(answers.remove(&answer) > Some(2), "{answer:?}");
+    }
+    assert!(answers.is_empty(), "{answers:?}");
+    // one number or byte of a row of type 5 is another
+    let mut damaged = HashSet::new();
+    for row in kept.chunks_exact(152).filter(|row| row[0] == 128 + 5) {
+        let differs = |whole: &[u8]| (1..152).filter(|&at| row[at] != whole[at]).collect::<Vec<_>>();
+        let differ = kept.chunks_exact(152).filter(|row| row[0] == 5).map(differs).find(|differ| differ.len() == 1);
+        damaged.insert(differ.expect("a row, but for a byte")[0]);
+    }
+    assert_eq!(damaged, HashSet::from([12, 16, 20, 24, 28, 36, 88, 151]));
+}
+
+/// 2 and 3 are no reader's: 31 where the token is there, whatever its kind, and asked of the tokens that they once read.
+#[test]
+fn recorded_numbers_without_a_reader() {
+    let kept = std::fs::read("../../crates/replay/data/answers").unwrap();
+    for (reader, kind) in [(2, 7), (3, 9)] {
+        let mut asked = 0;
+        for row in kept.chunks_exact(152).filter(|row| row[0] == 4 && row[1] == reader) {
+            assert!(number(row, 12) == 2 && [2, 3, 4, 30, 31].contains(&number(row, 16)), "{row:?}");
+            asked += usize::from((number(row, 8), number(row, 16)) == (kind, 31));
+        }
+        assert!(asked > 5, "{reader}: {asked}");
+    }
 }
 
 #[test]

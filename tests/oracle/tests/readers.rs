@@ -2,10 +2,12 @@
 
 use Part::{Absent, Copied, Refused, Text, WrongKind};
 use oracle::lexer::{Lexer, SignToken};
+use oracle::names::{Sort, grammar, random};
 use oracle::readers::Token;
 use oracle::texts::Texts;
 use oracle::{Answer, Fault, Oracle};
 use std::borrow::Cow;
+use std::collections::BTreeMap;
 
 /// What a reader leaves: nothing for a token that isn't of its kind (31), a part that is absent, a part of the text, a
 /// copy, or an error with its number and data.
@@ -95,24 +97,24 @@ fn names() {
     ];
     for (name_part, expected) in rows {
         for position in [0, 3] {
-            let text = format!("{}${name_part}", &"é "[..position]);
-            let oracle = Oracle::new(&text, false);
-            let token = token(&oracle, position);
-            assert_eq!(name(&oracle.id(&token), &token), *expected, "{text:?}");
-            assert_eq!(name(&oracle.annotation_name(&token), &token), WrongKind, "{text:?}");
-
-            let text = text.replacen('$', "@", 1);
-            let oracle = Oracle::new(&text, false);
-            let token = self::token(&oracle, position);
-            assert_eq!(name(&oracle.annotation_name(&token), &token), *expected, "{text:?}");
-            assert_eq!(name(&oracle.id(&token), &token), WrongKind, "{text:?}");
+            for (sigil, kind) in [('$', 7), ('@', 9)] {
+                let text = format!("{}{sigil}{name_part}", &"é "[..position]);
+                let oracle = Oracle::new(&text, false);
+                let token = token(&oracle, position);
+                assert_eq!(token.kind(), kind, "{text:?}");
+                assert_eq!(name(&oracle.name(&token), &token), *expected, "{text:?}");
+            }
         }
     }
     for (text, number) in [("$", 23), (r#"$"""#, 23), ("@", 24), (r#"@"""#, 24)] {
         let oracle = Oracle::new(text, false);
         let token = token(&oracle, 0);
-        let read = oracle.id(&token).or_else(|| oracle.annotation_name(&token));
-        assert_eq!(name(&read, &token), Refused(number, [0, 0]), "{text:?}");
+        assert_eq!(name(&oracle.name(&token), &token), Refused(number, [0, 0]), "{text:?}");
+    }
+    for text in ["(;;)", ";;", " ", "(", ")", "a", "A", r#""a""#, "1", "1.5", r#"$$"a""#] {
+        let oracle = Oracle::new(text, false);
+        let token = token(&oracle, 0);
+        assert_eq!(name(&oracle.name(&token), &token), WrongKind, "{text:?}");
     }
 }
 
@@ -192,6 +194,45 @@ fn keyword_and_reserved_are_src() {
     }
 }
 
+/// That names of each sort were met, of ids and of annotations, and more than so many of each.
+fn assert_each_sort(names: &BTreeMap<(u16, Option<Sort>), u32>, most: u32) {
+    assert!(names.len() == 2 * Sort::ALL.len() && names.values().all(|count| *count > most), "{names:?}");
+}
+
+#[test]
+fn random_names() {
+    let mut chance = Texts::new(3);
+    let (mut names, mut longest) = (BTreeMap::new(), 0);
+    for _ in 0..20_000 {
+        let text = random(&mut chance);
+        let oracle = Oracle::new(&text, true);
+        if let (Answer::Token(token), _) = oracle.parse(0)
+            && let Some(sort) = Sort::of(&oracle, &token)
+        {
+            *names.entry((token.kind(), Some(sort))).or_default() += 1;
+            longest = longest.max(token.len());
+        }
+    }
+    assert_each_sort(&names, 1_000);
+    assert!(longest > 300, "{longest}");
+}
+
+/// The names of the small grammar, those of them that are one token: of each sort too.
+#[test]
+fn names_of_the_grammar() {
+    let mut names = BTreeMap::new();
+    grammar(2, &mut |text| {
+        let oracle = Oracle::new(text, true);
+        if let (Answer::Token(token), after) = oracle.parse(0)
+            && after == text.len()
+            && let Some(sort) = Sort::of(&oracle, &token)
+        {
+            *names.entry((token.kind(), Some(sort))).or_default() += 1;
+        }
+    });
+    assert_each_sort(&names, 0);
+}
+
 /// Where a part of the text starts.
 fn start(text: &str, part: &[u8]) -> usize {
     part.as_ptr().addr() - text.as_ptr().addr()
@@ -200,7 +241,7 @@ fn start(text: &str, part: &[u8]) -> usize {
 #[test]
 fn on_random_texts() {
     let mut texts = Texts::new(2);
-    let mut names = 0;
+    let mut names = BTreeMap::<_, u32>::new();
     for _ in 0..200_000 {
         let text = texts.text(40);
         let oracle = Oracle::new(&text, true);
@@ -219,8 +260,8 @@ fn on_random_texts() {
         }
 
         // 22 needs a copy, 23 and 24 none; a part of the text starts after `$` or `@` and a quote
-        if let Some(read) = oracle.id(&token).or_else(|| oracle.annotation_name(&token)) {
-            names += 1;
+        if let Some(read) = oracle.name(&token) {
+            *names.entry((token.kind(), Sort::of(&oracle, &token))).or_default() += 1;
             let quoted = src[1..].starts_with('"');
             match read {
                 Ok(Cow::Borrowed(name)) => {
@@ -238,5 +279,5 @@ fn on_random_texts() {
             assert_eq!(*integer.digits, src.trim_start_matches('+').replace('_', "").replace("0x", ""), "{src:?}");
         }
     }
-    assert!(names > 5_000);
+    assert_each_sort(&names, 100);
 }
