@@ -20,7 +20,7 @@ use Rattle.wat.specs.Chars.{control, confusing, is_scalar}
 use Rattle.wat.specs.Strings.{Hex, Gap, HexNum, escapes}
 use Rattle.wat.specs.Numbers.{digit}
 use Rattle.wat.specs.StringFaults.{listed, escaping, going_on, NumberEnds, Fits32, Awaits, Bad}
-use Rattle.wat.specs.StringModel.{hex_of, letter_of, element, refused, close_by, number_by}
+use Rattle.wat.specs.StringModel.{hex_of, letter_of, refused, close_by, number_by}
 use Rattle.wat.specs.StringModel.{first_by, brace_by, second_by, escape_by, read}
 use Rattle.wat.proofs.Scalars.{ascii, alone_at, peek_char, peek_nothing}
 use Rattle.wat.proofs.Utf8Rows.{char_full}
@@ -28,7 +28,7 @@ use Rattle.wat.proofs.Utf8Laws.{chars_meet}
 use Rattle.wat.proofs.HexDigits.{hex_ascii, no_hex, no_digit, goes_split, GoesOn}
 use Rattle.wat.proofs.HexDigits.{not_digit, digit_not, digit_yes, tested_digit, ends_not, not_ends}
 use Rattle.wat.proofs.Hexnums.{on_big, on_stop}
-use Rattle.wat.proofs.Hexnums.{any, gap_any, under, under_twice, unders, alone}
+use Rattle.wat.proofs.Hexnums.{any, gap_any, under, under_twice, unders}
 use Rattle.wat.proofs.Basics.{fault_same, never, or_no, or_split}
 use Rattle.wat.proofs.Basics.{has_every, fault_same}
 use Rattle.wat.proofs.ElementReads.{hidden_is, read_char, read_slash, read_end, read_u, read_brace, unlisted, not_listed}

@@ -15,7 +15,7 @@ use Rattle.wat.specs.declared.LexError.TheVariants.{InvalidStringElement}
 use Rattle.wat.specs.declared.LexError.TheVariants.{UnexpectedEof, InvalidUnicodeValue}
 use Rattle.wat.specs.declared.LexError.TheVariants.{ConfusingUnicode}
 use Rattle.wat.specs.declared.Settings.{Settings}
-use Rattle.wat.specs.Utf8.{Char, scalar, more}
+use Rattle.wat.specs.Utf8.{Char, scalar}
 use Rattle.wat.specs.Utf8Model.{pick}
 use Rattle.wat.specs.Bytes.{between}
 use Rattle.wat.specs.Chars.{control, confusing, is_scalar}

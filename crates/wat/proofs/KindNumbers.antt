@@ -55,15 +55,32 @@ abbrev Again : TokenKind → Type 0
 Again k = k ≡ kind_at (kind_number k)
 
 integer : (s : Sign) (u h : Bool) → Again (Integer (record { sign = s; underscores = u; hex = h }))
-integer Unsigned u h = elim u [ true ↦ elim h [ true ↦ refl | false ↦ refl ] | false ↦ elim h [ true ↦ refl | false ↦ refl ] ]
-integer Plus u h = elim u [ true ↦ elim h [ true ↦ refl | false ↦ refl ] | false ↦ elim h [ true ↦ refl | false ↦ refl ] ]
-integer Minus u h = elim u [ true ↦ elim h [ true ↦ refl | false ↦ refl ] | false ↦ elim h [ true ↦ refl | false ↦ refl ] ]
+integer Unsigned true true = refl
+integer Unsigned true false = refl
+integer Unsigned false true = refl
+integer Unsigned false false = refl
+integer Plus true true = refl
+integer Plus true false = refl
+integer Plus false true = refl
+integer Plus false false = refl
+integer Minus true true = refl
+integer Minus true false = refl
+integer Minus false true = refl
+integer Minus false false = refl
 
 float : (f : FloatKind) → Again (Float f)
-float (Inf n) = elim n [ true ↦ refl | false ↦ refl ]
-float (Nan n) = elim n [ true ↦ refl | false ↦ refl ]
-float (NanVal n u) = elim n [ true ↦ elim u [ true ↦ refl | false ↦ refl ] | false ↦ elim u [ true ↦ refl | false ↦ refl ] ]
-float (Normal u h) = elim u [ true ↦ elim h [ true ↦ refl | false ↦ refl ] | false ↦ elim h [ true ↦ refl | false ↦ refl ] ]
+float (Inf true) = refl
+float (Inf false) = refl
+float (Nan true) = refl
+float (Nan false) = refl
+float (NanVal true true) = refl
+float (NanVal true false) = refl
+float (NanVal false true) = refl
+float (NanVal false false) = refl
+float (Normal true true) = refl
+float (Normal true false) = refl
+float (Normal false true) = refl
+float (Normal false false) = refl
 
 found_again : (k : TokenKind) → Again k
 found_again LineComment = refl

@@ -13,7 +13,7 @@ use Rattle.wat.specs.declared.Settings.{Settings}
 use Rattle.wat.specs.Utf8.{Char, scalar}
 use Rattle.wat.specs.Chars.{control}
 use Rattle.wat.specs.Strings.{Hex, HexNum, escapes, Elem}
-use Rattle.wat.proofs.Basics.{differ, never, AllPairs, pairs_listed}
+use Rattle.wat.proofs.Basics.{never, AllPairs, pairs_listed}
 
 -- hexnum: a digit, or a number, perhaps an underscore, and a digit
 pub data Hexnum : List ℕ → ℕ → Type 0 where

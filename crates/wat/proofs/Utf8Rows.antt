@@ -153,7 +153,7 @@ followed k (lo ‥ hi ∷ rs) (b ∷ t) p = go (has (lo ‥ hi) b) refl (followe
     up h (whole c u e f g) = whole (b ∷ c) u (ap (λ (l : List ℕ). b ∷ l) e) (next h.0 h.1 f) (g ∙ ap Whole (omega arith))
     up h (cut q f l g) = cut q (next h.0 h.1 f) l g
     up h (wrong n q l f o m g) =
-        wrong (suc n) q (omega arith) (next h.0 h.1 f) o (λ i. elim i [
+        wrong (suc n) q (omega arith) (next h.0 h.1 f) o (elim [
           | zero ↦ λ r _ _. omega arith
           | suc j ↦ λ r z y. let v = m j r (omega arith) (fits_head y).2 in omega arith
         ]) (g ∙ ap Wrong (omega arith))
@@ -164,7 +164,7 @@ followed k (lo ‥ hi ∷ rs) (b ∷ t) p = go (has (lo ‥ hi) b) refl (followe
     go true h v = up (has_true lo hi b h) v
     go false h v =
         let r = completed (lo ‥ hi ∷ rs) p in
-        wrong 0 r.0 (omega arith) r.1 (omega (arith, fits_length r.1)) (λ i. elim i [
+        wrong 0 r.0 (omega arith) r.1 (omega (arith, fits_length r.1)) (elim [
           | zero ↦ λ q _ _. omega arith
           | suc j ↦ λ q z y. absurd (never (has_in lo hi b (fits_head y).0 (fits_head y).1) h)
         ]) (ap Wrong (sym (add-zero k)))
