@@ -1,4 +1,7 @@
 // The numbers of kinds, errors and refusals (docs/RULES.md, 1 to 14), a number's kind, and what a refusal carries.
+
+#![tactic(auto)]
+
 ghost use Rattle.std.specs.Prelude.{◌≡◌, ◌≤◌, ◌/◌, ◌%◌, eqb, [], ◌∷◌, ◌⊎◌};
 ghost use Rattle.wat.specs.Cases.{flag as flag_of, sign_number, float_number, kind_number, error_number, number};
 ghost use Rattle.codes.specs.Numbered.{Numbered, Same};
@@ -76,7 +79,7 @@ pub fn same_kind(a: TokenKind, b: TokenKind) -> bool
 }
 
 // The kind that has a number, if one has it.
-#[derive(Drop)]
+#[derive(Clone, Copy)]
 pub enum MaybeKind {
     Kind(TokenKind),
     NoKind,
@@ -151,7 +154,7 @@ pub fn kind_of(n: u16) -> MaybeKind
 
 // The number of a refusal and the values that it carries, 0 for each that it lacks: characters and numbers of an error,
 // or the two lengths of `Utf8Error`.
-#[derive(Drop)]
+#[derive(Clone, Copy)]
 pub struct Code {
     pub number: u8,
     pub first: u64,
