@@ -1,6 +1,8 @@
 // Characters in UTF-8: the one that stands at a place of a text, and where a text may be cut. Rust has this in
 // `std::str`; what is right is said by the Unicode Standard's table of well-formed sequences, `wat/specs/Utf8.antt`.
 
+#![tactic(auto)]
+
 ghost use Rattle.std.specs.Prelude.{◌≡◌, ◌+◌, ◌%◌, ◌<◌, ◌≤◌, ◌∷◌, length, take, drop, slice_index};
 ghost use Rattle.wat.specs.Utf8.{◌‥◌, scalar, WellFormed};
 ghost use Rattle.wat.specs.Utf8Model.{has, follow, front};
@@ -11,7 +13,7 @@ ghost use Rattle.utf8_chars.specs.Boundary.{Boundary};
 use wat::Front;
 
 // The character at a place: its scalar value and its length in bytes.
-#[derive(Drop)]
+#[derive(Clone, Copy)]
 pub enum Decoded {
     Char { value: u32, len: usize },
     Nothing,
