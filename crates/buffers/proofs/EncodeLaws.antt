@@ -4,7 +4,7 @@ use mathlib.Core.Path.{◌≡◌}
 use mathlib.Core.List.{List, [], ◌∷◌}
 use native.Mathlib.Omega.{arith}
 use native.Mathlib.Numerals.{add-one, add-two, add-three}
-use lib.ListN.{length, set}
+use lib.ListN.{length, set, length-set}
 use lib.Seq.{sets}
 use borrow.Author.Tests.{lt-ltb, le-ltb}
 use Rattle.wat.specs.StringModel.{encode}
@@ -67,3 +67,7 @@ module _ (d : List ℕ) (to v : ℕ) where
       → Put d (set (set (set (set d to a) (to + 1) b) (to + 2) c) (to + 3) e) to (encode v)
   put_code_4 a b c e room h p q r x =
       rw (add-one to, add-two to, add-three to) (stored (a ∷ b ∷ c ∷ e ∷ []) (rw (p, q, r, x) (code_4 v h)) room)
+
+-- how many bytes, and what their stores leave
+pub ruleset codes =
+    (length-set, long_1, long_2, long_3, long_4, put_code_1, put_code_2, put_code_3, put_code_4)

@@ -1,10 +1,13 @@
 // Bytes written into a lent buffer: those of a scalar value in UTF-8, and a part of another slice or all of it.
 
+#![tactic(auto)]
+
 ghost use Rattle.std.specs.Prelude.{◌≡◌, ◌+◌, ◌/◌, ◌%◌, ◌≤◌, ◌<◌, length, take, drop};
 ghost use Rattle.wat.specs.StringModel.{encode};
 ghost use Rattle.buffers.specs.Writing.{Put, Added, Encoded};
 
 // How many bytes a scalar value has.
+#[tactic(auto, unfolding(wat::specs::StringModel::encode))]
 pub fn len_utf8(v: u32) -> usize
     ensures { result ≡ length (encode v) }
 {
@@ -35,6 +38,7 @@ fn six_byte(x: u32) -> u8
 }
 
 // Writes the bytes of a scalar value at a place of a buffer that has the room; returns how many they are.
+#[tactic(auto, using(crate::proofs::EncodeLaws::codes))]
 pub fn encode_utf8(dst: &mut [u8], to: usize, v: u32) -> usize
     requires { (v < 0x110000) × (to + length (encode v) ≤ length dst.old) }
     ensures { Encoded dst.old dst.new to v result }
@@ -62,6 +66,7 @@ pub fn encode_utf8(dst: &mut [u8], to: usize, v: u32) -> usize
 }
 
 // Writes n bytes of one slice, from a place on, at a place of another.
+#[tactic(auto, using(crate::proofs::PutLaws::copy_more))]
 pub fn copy(dst: &mut [u8], to: usize, src: &[u8], from: usize, n: usize)
     requires { (to + n ≤ length dst.old) × (from + n ≤ length src.now) }
     ensures { Put dst.old dst.new to (take n (drop from src.now)) }
@@ -74,6 +79,7 @@ pub fn copy(dst: &mut [u8], to: usize, src: &[u8], from: usize, n: usize)
 }
 
 // Writes the bytes of a text at a place of a buffer; returns where they end.
+#[tactic(auto, using(crate::proofs::AddedLaws::copied_all))]
 pub fn append(out: &mut [u8], at: usize, text: &[u8]) -> usize
     requires { at + length text.now ≤ length out.old }
     ensures { Added out.old out.new at text.now result }
