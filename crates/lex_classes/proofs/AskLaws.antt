@@ -125,3 +125,6 @@ module _ (b : ℕ) where
         between_out (byte "A") (byte "F") b (omega arith),
         between_out (byte "a") (byte "f") b (omega arith),
       )
+
+-- hexadecimal digits
+pub ruleset hexes = (hex_digit, hex_none, digit_far)

@@ -109,3 +109,6 @@ module _ (test : ℕ → Bool) (b : Bool) (s : List ℕ) (at i r : ℕ) (p : Pas
 
   pub scanned_then : Scanned test b s i r → Scanned test b s at r
   scanned_then q = record { end = q.end ∙ p.same; within = q.within }
+
+-- what a scan's loop keeps, and its answers
+pub ruleset scans = (passed_none, passed_one, passed_stop, passed_end, scanned_then)

@@ -1,6 +1,8 @@
 // Classes of bytes and of characters, and the scans over them. wat's definitions say which bytes are meant.
 // Callers ask for a class by a function, to which they lend the one table: so the table can change and no caller does.
 
+#![tactic(auto)]
+
 ghost use Rattle.std.specs.Prelude.{◌≡◌, true, false, not, ◌+◌, ◌*◌, ◌/◌, ◌%◌, min, ◌≤◌, length, get_or};
 ghost use Rattle.wat.specs.Numbers.{digit};
 ghost use Rattle.wat.specs.Chars.{idchar, space, letter, is_scalar, control, confusing};
@@ -112,6 +114,7 @@ pub fn begins(t: &[u8; 256], b: u8) -> Family
 }
 
 // a to z: what a keyword begins with.
+#[tactic(auto, unfolding(wat::specs::Bytes::between))]
 pub fn is_letter(t: &[u8; 256], b: u8) -> bool
     requires { Classes t.now }
     ensures { result ≡ letter b }
@@ -121,6 +124,7 @@ pub fn is_letter(t: &[u8; 256], b: u8) -> bool
 }
 
 // A digit: 0 to 9, and A to F and a to f where it is hexadecimal.
+#[tactic(auto, unfolding(wat::specs::Bytes::between))]
 pub fn is_digit(t: &[u8; 256], hex: bool, b: u8) -> bool
     requires { Classes t.now }
     ensures { result ≡ digit hex b }
@@ -140,6 +144,7 @@ pub fn hex_value(b: u8) -> u32
 }
 
 // The value of a character that is a hexadecimal digit, or 16 for any other.
+#[tactic(auto, using(crate::proofs::AskLaws::hexes))]
 pub fn to_hex(t: &[u8; 256], c: u32) -> u8
     requires { Classes t.now }
     ensures { hex_of c ≡ digit_of result }
@@ -154,6 +159,7 @@ pub fn to_hex(t: &[u8; 256], c: u32) -> u8
     16
 }
 
+#[tactic(auto, unfolding(wat::specs::Chars::control))]
 pub fn is_control(t: &[u8; 256], c: u32) -> bool
     requires { Classes t.now }
     ensures { result ≡ control c }
@@ -166,6 +172,7 @@ pub fn is_control(t: &[u8; 256], c: u32) -> bool
 }
 
 // An ASCII character that a string holds as it is: none that 12 refuses, no `"` and no `\`.
+#[tactic(auto, unfolding(wat::specs::Bytes::between))]
 pub fn is_raw(t: &[u8; 256], b: u8) -> bool
     requires { Classes t.now }
     ensures { result ≡ raw b }
@@ -174,6 +181,7 @@ pub fn is_raw(t: &[u8; 256], b: u8) -> bool
     ((OP <= class) & (class <= LO)) | (b == b' ')
 }
 
+#[tactic(auto, unfolding(wat::specs::Chars::is_scalar, wat::specs::Bytes::between))]
 pub fn is_scalar(n: u32) -> bool
     ensures { result ≡ is_scalar n }
 {
@@ -181,6 +189,7 @@ pub fn is_scalar(n: u32) -> bool
 }
 
 // Characters that make a text look different to a person than to the lexer.
+#[tactic(auto, unfolding(wat::specs::Chars::confusing, wat::specs::Bytes::has))]
 pub fn is_confusing_unicode(c: u32) -> bool
     ensures { result ≡ confusing c }
 {
@@ -191,6 +200,7 @@ pub fn is_confusing_unicode(c: u32) -> bool
 }
 
 // Whether three bytes are such a character: with no branch, so that a loop over this becomes vector code.
+#[tactic(auto, unfolding(crate::specs::Ask::confusing_bytes, wat::specs::Bytes::between))]
 pub fn is_confusing_bytes(b: u8, c: u8, d: u8) -> bool
     ensures { result ≡ confusing_bytes b c d }
 {
@@ -200,6 +210,7 @@ pub fn is_confusing_bytes(b: u8, c: u8, d: u8) -> bool
 }
 
 // White space by comparisons, which become vector code where a lookup does not.
+#[tactic(auto, unfolding(wat::specs::Chars::space, wat::specs::Bytes::has))]
 fn is_space(b: u8) -> bool
     ensures { result ≡ space b }
 {
@@ -207,6 +218,7 @@ fn is_space(b: u8) -> bool
 }
 
 // k for a place that passes a test, and n for one that does not.
+#[tactic(auto, unfolding(crate::specs::Scan::placed))]
 fn place_if(passes: bool, n: u8, k: u8) -> u8
     ensures { result ≡ placed passes n k }
 {
@@ -240,6 +252,7 @@ fn spaces32(s: &[u8], i: usize) -> usize
 }
 
 // As `skip_ws`, where much white space is to be expected: 32 bytes at a time.
+#[tactic(auto, using(crate::proofs::ScanLaws::scans))]
 fn long_ws(s: &[u8], at: usize, t: &[u8; 256]) -> usize
     requires at_in_bounds { at ≤ length s.now }
     requires classes { Classes t.now }
@@ -266,6 +279,7 @@ fn long_ws(s: &[u8], at: usize, t: &[u8; 256]) -> usize
 // The place behind the white space from `at` on: four bytes that stand in UTF-8 for themselves alone. Most runs are
 // short: the first eight bytes are looked at one by one, in a loop of fixed length, which LLVM unrolls, so that each
 // step has a branch of its own for the processor to foresee.
+#[tactic(auto, using(crate::proofs::ScanLaws::scans))]
 pub fn skip_ws(s: &[u8], at: usize, t: &[u8; 256]) -> usize
     requires at_in_bounds { at ≤ length s.now }
     requires classes { Classes t.now }
@@ -286,6 +300,7 @@ pub fn skip_ws(s: &[u8], at: usize, t: &[u8; 256]) -> usize
 }
 
 // The place behind the idchars from `at` on: the first eight bytes as in `skip_ws`.
+#[tactic(auto, using(crate::proofs::ScanLaws::scans))]
 pub fn idchars_end(s: &[u8], at: usize, t: &[u8; 256]) -> usize
     requires at_in_bounds { at ≤ length s.now }
     requires classes { Classes t.now }
@@ -306,6 +321,7 @@ pub fn idchars_end(s: &[u8], at: usize, t: &[u8; 256]) -> usize
 }
 
 // As `idchars_end`, for a word of any length.
+#[tactic(auto, using(crate::proofs::ScanLaws::scans))]
 fn long_word(s: &[u8], at: usize, t: &[u8; 256]) -> usize
     requires at_in_bounds { at ≤ length s.now }
     requires classes { Classes t.now }
@@ -322,6 +338,7 @@ fn long_word(s: &[u8], at: usize, t: &[u8; 256]) -> usize
 }
 
 // The place behind the decimal digits from `at` on.
+#[tactic(auto, using(crate::proofs::ScanLaws::scans))]
 pub fn digits_end(s: &[u8], at: usize, t: &[u8; 256]) -> usize
     requires at_in_bounds { at ≤ length s.now }
     requires classes { Classes t.now }
@@ -338,6 +355,7 @@ pub fn digits_end(s: &[u8], at: usize, t: &[u8; 256]) -> usize
 }
 
 // The place behind the raw characters from `at` on, of those that are ASCII.
+#[tactic(auto, using(crate::proofs::ScanLaws::scans))]
 pub fn ascii_raw_end(s: &[u8], at: usize, t: &[u8; 256]) -> usize
     requires at_in_bounds { at ≤ length s.now }
     requires classes { Classes t.now }

@@ -1,0 +1,11 @@
+use Rattle.std.proofs.Common.{◌-◌, true, false, length}
+use Rattle.wat.specs.Numbers.{digit}
+use Rattle.lex_classes.specs.Scan.{Passed}
+use Rattle.lex_classes.proofs.digits_end.Given as goal
+
+-- the bytes passed are of the kind
+abbrev pub invariant-loop-i : goal.invariant-loop-i
+invariant-loop-i l = Passed (digit false) true l.s l.at l.i
+
+abbrev pub decreases-loop-i : goal.decreases-loop-i
+decreases-loop-i l = length l.s - l.i
