@@ -85,3 +85,5 @@ module _ {hex : Bool} {text : List ℕ} {at end i : ℕ} {must seen : Bool} (r :
     pub ended_well : must ≡ false → whole ≡ past seen (slice i end text)
     unfolding run
     ended_well m = r.same ∙ rw none_left (rw (m, run) (rw or-false))
+
+pub ruleset runs = (ran_none, goes_on, digit_missing, digits_end, ended_missing, ended_well)

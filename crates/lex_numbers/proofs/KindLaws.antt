@@ -22,6 +22,8 @@ use Rattle.wat.proofs.Numbers.Digits.{apart}
 use Rattle.wat.proofs.Numbers.Decides.{complete, sound}
 use Rattle.lex_numbers.specs.declared.Skip.{Skip}
 use Rattle.lex_numbers.specs.declared.Skip.TheVariants.{Bad, To}
+use Rattle.lex_numbers.proofs.SliceLaws.{at_byte, at_end_empty}
+use Rattle.lex_numbers.proofs.WordLaws.{begins, begins_not, begins_within}
 use Rattle.lex_numbers.specs.Places.{left_at, Within, Skipped, stripped, When}
 
 -- ---- what a place says of the model
@@ -160,3 +162,16 @@ classified {s} {k} h = go (sound s) h.kind
     go (inr l) q = sym (h.only (classify s) l)
     go (inl e) (inl q) = q ∙ sym e
     go (inl e) (inr l) = sym (complete l)
+
+pub ruleset places = (at_byte, at_end_empty, found_bad, found, found_within)
+
+pub ruleset floats = (places, fraction_bad, exponent_bad, normal_here, normal_more)
+
+pub ruleset decisions = (places, decide_bad, decide_integer, decide_float)
+
+pub ruleset finites = (prefix_within, finite_told)
+
+pub ruleset payloads = (places, payload_bad, payload_here, payload_more)
+
+pub ruleset kinds =
+    (places, begins, begins_not, begins_within, nothing_after_sign, digit_first, is_inf, is_nan, is_payload, is_none)

@@ -110,3 +110,9 @@ module _ (text : List ℕ) (i end : ℕ) (below : i < end) (fits : end ≤ lengt
     pub no_mark_first : marks hex (get_or text i 0) ≡ false → exponent hex (slice i end text) ≡ bad
     unfolding exponent
     no_mark_first p = rw (at_byte text i end below fits) (rw (p, exponent))
+
+pub ruleset signs_told = (no_sign_left, plus_first, minus_first, no_sign_first, none_after_sign, after_one, after_none)
+
+pub ruleset fractions = (no_dot_left, no_dot_first, dot_last, dot_digit, dot_other)
+
+pub ruleset exponents = (no_mark_left, mark_first, no_mark_first)

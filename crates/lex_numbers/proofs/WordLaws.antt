@@ -91,3 +91,6 @@ module _ {text : List ℕ} {at end : ℕ} {word : List ℕ} {r : Bool} (b : Begi
           let q = eqb-false (end - at) (length word) h in
           let z : at + length word < end = omega arith in
           rw (h, begins e, at_byte text (at + length word) end z fits)
+
+pub ruleset words =
+    (matched_none, text_ended, same_byte, other_byte, word_ended, begins, begins_not, begins_within, is_not, is_where)

@@ -11,6 +11,7 @@ use super::{Skip, fraction_at, past_sign, skip_underscores};
 use wat::{Number, Sign};
 
 // The bytes from `at` to `end` begin with `word`.
+#[tactic(auto, using(crate::proofs::WordLaws::words))]
 fn starts(text: &[u8], at: usize, end: usize, word: &[u8]) -> bool
     requires { (at ≤ end) × (end ≤ length text.now) }
     ensures { Begins text.now at end word.now result }
@@ -31,6 +32,7 @@ fn starts(text: &[u8], at: usize, end: usize, word: &[u8]) -> bool
 }
 
 // The bytes from `at` to `end` are `word`.
+#[tactic(auto, using(crate::proofs::WordLaws::words))]
 fn is_word(text: &[u8], at: usize, end: usize, word: &[u8]) -> bool
     requires { (at ≤ end) × (end ≤ length text.now) }
     ensures { result ≡ is word.now (slice at end text.now) }
@@ -52,6 +54,7 @@ fn is_negative(sign: Sign) -> bool
 }
 
 // `c` begins an exponent.
+#[tactic(auto, unfolding(wat::specs::Numbers::marks))]
 fn is_mark(hex: bool, c: u8) -> bool
     ensures { result ≡ marks hex c }
 {
@@ -61,6 +64,7 @@ fn is_mark(hex: bool, c: u8) -> bool
     (c == b'e') | (c == b'E')
 }
 
+#[tactic(auto, using(crate::proofs::PartLaws::exponents))]
 fn exponent_at(text: &[u8], at: usize, end: usize, hex: bool, t: &[u8; 256]) -> Skip
     requires at_le_end { (at ≤ end) × (end ≤ length text.now) }
     requires classes { Classes t.now }
@@ -81,6 +85,7 @@ fn exponent_at(text: &[u8], at: usize, end: usize, hex: bool, t: &[u8; 256]) -> 
 
 // What follows the digits of a float: a fraction, an exponent, and nothing more. `seen` says whether the digits have
 // an underscore.
+#[tactic(auto, using(crate::proofs::KindLaws::floats))]
 fn float_at(text: &[u8], at: usize, end: usize, hex: bool, seen: bool, t: &[u8; 256]) -> Number
     requires at_le_end { (at ≤ end) × (end ≤ length text.now) }
     requires classes { Classes t.now }
@@ -116,6 +121,7 @@ fn float_at(text: &[u8], at: usize, end: usize, hex: bool, seen: bool, t: &[u8; 
 }
 
 // The kind of a number whose digits are passed.
+#[tactic(auto, using(crate::proofs::KindLaws::decisions))]
 fn decide_at(text: &[u8], digits: Skip, end: usize, sign: Sign, hex: bool, t: &[u8; 256]) -> Number
     requires within { Within end digits × (end ≤ length text.now) }
     requires classes { Classes t.now }
@@ -150,6 +156,7 @@ fn digits_at(text: &[u8], at: usize, end: usize, hex: bool, t: &[u8; 256]) -> Sk
     skip_underscores(text, at, end, false, t)
 }
 
+#[tactic(auto, using(crate::proofs::KindLaws::finites))]
 fn finite_at(text: &[u8], at: usize, end: usize, sign: Sign, t: &[u8; 256]) -> Number
     requires at_le_end { (at ≤ end) × (end ≤ length text.now) }
     requires classes { Classes t.now }
@@ -160,6 +167,7 @@ fn finite_at(text: &[u8], at: usize, end: usize, sign: Sign, t: &[u8; 256]) -> N
     decide_at(text, digits, end, sign, hex, t)
 }
 
+#[tactic(auto, using(crate::proofs::KindLaws::payloads))]
 fn payload_at(text: &[u8], at: usize, end: usize, sign: Sign, t: &[u8; 256]) -> Number
     requires at_le_end { (at ≤ end) × (end ≤ length text.now) }
     requires classes { Classes t.now }
@@ -181,6 +189,7 @@ fn payload_at(text: &[u8], at: usize, end: usize, sign: Sign, t: &[u8; 256]) -> 
 }
 
 // The kind of what follows a sign. The first byte tells most words that are no number.
+#[tactic(auto, using(crate::proofs::KindLaws::kinds))]
 pub fn unsigned_at(text: &[u8], at: usize, end: usize, sign: Sign, t: &[u8; 256]) -> Number
     requires at_le_end { (at ≤ end) × (end ≤ length text.now) }
     requires classes { Classes t.now }

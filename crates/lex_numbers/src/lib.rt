@@ -1,4 +1,7 @@
 // Number literals: what the bytes of a word are, read as a number (`classify_number` of the Rust).
+
+#![tactic(auto)]
+
 ghost use Rattle.std.specs.Prelude.{◌≡◌, true, ◌≤◌, length};
 ghost use Rattle.std.proofs.Math.Seq.{slice};
 ghost use Rattle.wat.specs.Numbers.{KindOf};
@@ -12,7 +15,7 @@ mod classify;
 
 // What passing a part of a literal says: whether it has an underscore, and where it ends; or that no such part is
 // there.
-#[derive(Drop)]
+#[derive(Clone, Copy)]
 pub enum Skip {
     Bad,
     To { underscores: bool, at: usize },
@@ -20,6 +23,7 @@ pub enum Skip {
 
 // Passes the digits that the bytes from `at` to `end` begin with, and the single underscores between them.
 // What `is_digit` says is stored and not only branched on, so that a hex digit costs one jump, be it a letter or not.
+#[tactic(auto, using(crate::proofs::DigitLaws::runs))]
 pub fn skip_underscores(text: &[u8], at: usize, end: usize, hex: bool, t: &[u8; 256]) -> Skip
     requires at_le_end { (at ≤ end) × (end ≤ length text.now) }
     requires classes { Classes t.now }
@@ -54,6 +58,7 @@ pub fn skip_underscores(text: &[u8], at: usize, end: usize, hex: bool, t: &[u8; 
     }
 }
 
+#[tactic(auto, using(crate::proofs::PartLaws::signs_told))]
 pub fn sign_at(text: &[u8], at: usize, end: usize) -> Sign
     requires { (at ≤ end) × (end ≤ length text.now) }
     ensures { result ≡ sign_of (slice at end text.now) }
@@ -71,6 +76,7 @@ pub fn sign_at(text: &[u8], at: usize, end: usize) -> Sign
     Sign::Unsigned
 }
 
+#[tactic(auto, using(crate::proofs::PartLaws::signs_told))]
 pub fn past_sign(text: &[u8], at: usize, end: usize) -> usize
     requires { (at ≤ end) × (end ≤ length text.now) }
     ensures { PastSign text.now at end result }
@@ -85,6 +91,7 @@ pub fn past_sign(text: &[u8], at: usize, end: usize) -> usize
     at
 }
 
+#[tactic(auto, using(crate::proofs::PartLaws::fractions))]
 pub fn fraction_at(text: &[u8], at: usize, end: usize, hex: bool, t: &[u8; 256]) -> Skip
     requires at_le_end { (at ≤ end) × (end ≤ length text.now) }
     requires classes { Classes t.now }
