@@ -1,5 +1,8 @@
 // The words that `wat-tokens` prints of a kind, its name and its detail: parts of one text in which all words stand.
 // specs/Details.antt says which they are.
+
+#![tactic(auto)]
+
 ghost use Rattle.std.specs.Prelude.{ℕ, ◌+◌, ◌≤◌, ◌≡◌, List, ◌++◌, length};
 ghost use Rattle.wat.specs.Bytes.{bytes};
 ghost use Rattle.buffers.specs.Writing.{Added};
@@ -9,14 +12,14 @@ ghost use Rattle.tokens_spelt.specs.Spelling.{words, Spells, Parted, Plain};
 use wat::{FloatKind, IntegerKind, Sign, TokenKind};
 
 // A part of the text in which all words stand.
-#[derive(Drop)]
+#[derive(Clone, Copy)]
 pub struct Span {
     pub start: usize,
     pub len: usize,
 }
 
 // The words of a line: the name with a space, and the detail in at most three.
-#[derive(Drop)]
+#[derive(Clone, Copy)]
 pub struct Parts {
     pub name: Span,
     pub first: Span,
