@@ -11,7 +11,6 @@ use lib.Seq.{length-take-le, take-append_seam, take-take, take-nil}
 use Rattle.wat.specs.declared.Fault.{Fault}
 use Rattle.wat.specs.Faults.{fault, shift}
 use Rattle.wat.specs.declared.TokenKind.{TokenKind}
-use Rattle.wat.specs.declared.LexError.{LexError}
 use Rattle.wat.specs.declared.LexError.TheVariants.{DanglingBlockComment, Unexpected, ConfusingUnicode, DoubleUnderscore}
 use Rattle.wat.specs.declared.Answer.{Answer}
 use Rattle.wat.specs.declared.Answer.TheVariants as answer

@@ -9,7 +9,7 @@ use lib.Dec.{ltb}
 use lib.ListN.{length, drop, replicate, length-append, length-drop}
 use lib.Seq.{drop-drop, drop-append_seam}
 use borrow.Author.Tests.{lt-ltb, ltb-true}
-use Rattle.wat.specs.declared.{Fault.Fault, LexError.LexError, Settings.Settings, Listed.Listed}
+use Rattle.wat.specs.declared.{Fault.Fault, LexError.LexError, Settings.Settings, Stop.Stop, Listed.Listed}
 use Rattle.wat.specs.declared.LexError.TheVariants.{UnexpectedEof}
 use Rattle.wat.specs.declared.Refusal.{Refusal}
 use Rattle.wat.specs.declared.Refusal.TheVariants.{Lexical}
@@ -166,10 +166,14 @@ parses_fault_stands (Parses.lexes s (Lexed.fails x)) q = fault_stands s (Lexed.f
 pub listing_fault_stands : {σ : Settings} {text : List ℕ} {start budget p : ℕ} {list l : List ℕ} {r : Listed} {e : LexError}
     → Listing σ text start budget list r l → r.stop ≡ stop.Refused (Lexical e) p → Stands text r.position
 listing_fault_stands {e = e} (Listing.rejected t) q = absurd (rejected_other {e = e} t (cc))
-listing_fault_stands (Listing.lists s w f g (Stops.end e)) q = differ (cc)
-listing_fault_stands (Listing.lists s w f g (Stops.budget h e)) q = differ (cc)
-listing_fault_stands (Listing.lists s w f g (Stops.fault h x)) q = fault_stands w.stands x
-listing_fault_stands (Listing.lists s w f g (Stops.full h i x)) q = differ (cc)
+listing_fault_stands {σ} {text} {e = e} (Listing.lists s w f g x) q = stopped w.stands x q
+  where
+    stopped : {budget room n at p place : ℕ} {why : Stop} → Stands text at → Stops σ text budget room n at why p
+        → why ≡ stop.Refused (Lexical e) place → Stands text p
+    stopped s (Stops.end e) q = differ (cc)
+    stopped s (Stops.budget h e) q = differ (cc)
+    stopped s (Stops.fault h x) q = fault_stands s x
+    stopped s (Stops.full h i x) q = differ (cc)
 
 -- ---- 17 stands at the end
 

@@ -5,10 +5,9 @@ use mathlib.Core.Path.{◌≡◌}
 use mathlib.Core.List.{List}
 use native.Mathlib.Omega.{arith}
 use lib.ListN.{length, length-drop}
-use Rattle.wat.specs.declared.{LexError.LexError, Refusal.Refusal, Settings.Settings, Stop.Stop, Listed.Listed}
+use Rattle.wat.specs.declared.{Settings.Settings, Stop.Stop, Listed.Listed}
 use Rattle.wat.specs.declared.Refusal.TheVariants.{Lexical}
 use Rattle.wat.specs.declared.Stop.TheVariants as stop
-use Rattle.wat.specs.Calls.{Rejected}
 use Rattle.wat.specs.Division.{Piece, Walked, record_size, Stops, Listing}
 use Rattle.wat_laws.specs.Windows.{Settled}
 use Rattle.wat.proofs.Basics.{differ}

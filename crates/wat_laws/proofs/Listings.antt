@@ -11,7 +11,6 @@ use Rattle.wat.specs.declared.Answer.TheVariants as answer
 use Rattle.wat.specs.declared.Stop.TheVariants as stop
 use Rattle.wat.specs.Lexing.{Lexed}
 use Rattle.wat.specs.LexModel.{lex}
-use Rattle.wat.specs.Calls.{Stands}
 use Rattle.wat.specs.Division.{Piece, lengths, Divided, Walked, record_size, Stops, Listing}
 use Rattle.wat.proofs.Basics.{differ, below}
 use Rattle.wat.proofs.Unique.{lexed_one}

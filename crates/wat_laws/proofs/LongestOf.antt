@@ -3,7 +3,6 @@ use Prim.Native.Nat.{ℕ, suc, ◌+◌, ◌≤◌}
 use mathlib.Core.Path.{◌≡◌, sym, ap, ◌∙◌}
 use mathlib.Core.Logic.{◌⊎◌, inl, inr, ⊎_elim}
 use mathlib.Core.List.{List, [], ◌∷◌, ◌++◌}
-use mathlib.Core.Option.{none}
 use mathlib.Core.Bool.{true, false}
 use native.Mathlib.Omega.{arith}
 use lib.ListN.{length, take, drop, length-append, take-append-drop}
@@ -20,7 +19,7 @@ use Rattle.wat.specs.RunModel.{walk}
 use Rattle.wat.specs.declared.Family.{Family}
 use Rattle.wat.specs.declared.Family.TheVariants.{Spaces as spaces, OpenParen as open_paren}
 use Rattle.wat.specs.declared.Family.TheVariants.{Semi as semi, Run as run}
-use Rattle.wat.specs.LexModel.{family, count, next, kind_of}
+use Rattle.wat.specs.LexModel.{family, count, kind_of}
 use Rattle.wat.proofs.Basics.{never, differ}
 use Rattle.wat.proofs.Runs.{Stopped, ended, halted, run_stops, run_most}
 use Rattle.wat.proofs.Blocks.{block_one}

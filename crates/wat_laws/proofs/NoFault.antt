@@ -3,7 +3,6 @@ use Prim.Native.Nat.{ℕ, zero, suc, ◌+◌, ◌<◌}
 use mathlib.Core.Path.{◌≡◌, refl, sym, ap, ◌∙◌, subst}
 use mathlib.Core.Logic.{◌⊎◌, ⊎_elim}
 use mathlib.Core.List.{List, [], ◌∷◌, ◌++◌, append_assoc}
-use mathlib.Core.Option.{none}
 use mathlib.Core.Bool.{Bool, true, false}
 use native.Mathlib.Omega.{arith}
 use lib.Dec.{ltb}
@@ -22,13 +21,12 @@ use Rattle.wat.specs.Chars.{confusing, Plain}
 use Rattle.wat.specs.Comments.{BlockComment}
 use Rattle.wat.specs.Lexing.{Longest, Comment, Fails, Lexed}
 use Rattle.wat.specs.StringModel.{char}
-use Rattle.wat.specs.declared.RunEnd.TheVariants.{Fails as fails}
 use Rattle.wat.specs.declared.Family.{Family}
 use Rattle.wat.specs.declared.Hidden.{Hidden}
 use Rattle.wat.specs.declared.Family.TheVariants.{OpenParen as open_paren}
 use Rattle.wat.specs.declared.Family.TheVariants.{Semi as semi, Run as run, Other as other}
 use Rattle.wat.specs.declared.Hidden.TheVariants.{Clear as clear, Found as found}
-use Rattle.wat.specs.LexModel.{family, next, beyond, hidden_by, hidden, comment_by, comment}
+use Rattle.wat.specs.LexModel.{family, beyond, hidden_by, hidden, comment_by, comment}
 use Rattle.wat.proofs.Utf8Rows.{char_full}
 use Rattle.wat.proofs.Utf8Laws.{chars_meet}
 use Rattle.wat.proofs.Basics.{never}

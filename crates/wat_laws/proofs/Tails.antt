@@ -6,10 +6,9 @@ use mathlib.Core.List.{List, ◌++◌}
 use native.Mathlib.Omega.{arith}
 use lib.ListN.{length, drop, length-append}
 use lib.Seq.{drop-append-add}
-use Rattle.wat.specs.declared.{Settings.Settings, Answer.Answer, Found.Found, Parsed.Parsed, Stop.Stop, Listed.Listed}
+use Rattle.wat.specs.declared.{Settings.Settings, Answer.Answer, Parsed.Parsed, Stop.Stop, Listed.Listed}
 use Rattle.wat.specs.declared.Refusal.TheVariants.{Lexical}
 use Rattle.wat.specs.declared.Answer.TheVariants as answer
-use Rattle.wat.specs.declared.Found.TheVariants as found
 use Rattle.wat.specs.declared.Stop.TheVariants as stop
 use Rattle.wat.specs.Lexing.{Lexed}
 use Rattle.wat.specs.Calls.{Text, Stands, at, Parses}

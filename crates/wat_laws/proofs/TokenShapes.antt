@@ -3,7 +3,6 @@ use Prim.Native.Nat.{ℕ, zero, suc, ◌≤◌}
 use mathlib.Core.Path.{◌≡◌, refl, sym, ap, ◌∙◌, subst}
 use mathlib.Core.Logic.{◌⊎◌, inl, inr, ⊎_elim}
 use mathlib.Core.List.{List, [], ◌∷◌, ◌++◌}
-use mathlib.Core.Option.{none}
 use mathlib.Core.Bool.{Bool, true, false}
 use native.Mathlib.Omega.{arith}
 use lib.ListN.{length, take}
@@ -15,7 +14,7 @@ use Rattle.wat.specs.Tokens.{Run, Tok}
 use Rattle.wat.specs.declared.Family.{Family}
 use Rattle.wat.specs.declared.Family.TheVariants.{Spaces as spaces, OpenParen as open_paren, CloseParen as close_paren}
 use Rattle.wat.specs.declared.Family.TheVariants.{Single as single, Semi as semi, Run as run, Other as other}
-use Rattle.wat.specs.LexModel.{family, count, next}
+use Rattle.wat.specs.LexModel.{family, count}
 use Rattle.wat.proofs.Basics.{differ}
 use Rattle.wat.proofs.Families.{Families, is_space, is_open, is_close, is_semi, is_single, is_char, is_quote, is_other, families}
 use Rattle.wat.proofs.Families.{family_space, family_punctuation}

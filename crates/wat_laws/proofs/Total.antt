@@ -29,7 +29,7 @@ use Rattle.wat.specs.CommentModel.{fresh, ends}
 use Rattle.wat.specs.declared.Family.{Family}
 use Rattle.wat.specs.declared.Family.TheVariants.{Spaces as spaces, OpenParen as open_paren, CloseParen as close_paren}
 use Rattle.wat.specs.declared.Family.TheVariants.{Single as single, Semi as semi, Run as run, Other as other}
-use Rattle.wat.specs.LexModel.{family, count, next, kind_of, comment, block_by, run_by, other_by}
+use Rattle.wat.specs.LexModel.{family, count, next, kind_of, block_by, run_by, other_by}
 use Rattle.wat.specs.LexModel.{lex_by, lex}
 use Rattle.wat.proofs.Utf8Rows.{char_full}
 use Rattle.wat.proofs.Basics.{never, differ}

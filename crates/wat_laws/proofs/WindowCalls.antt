@@ -7,18 +7,15 @@ use mathlib.Core.List.{List, [], ◌∷◌, ◌++◌, append_assoc}
 use native.Mathlib.Omega.{arith}
 use lib.ListN.{length, take, drop, length-append, length-drop, drop_of_length-le}
 use lib.Seq.{take-append-le, drop-append-le}
-use Rattle.wat.specs.declared.{Token.Token, Fault.Fault, LexError.LexError, Settings.Settings}
-use Rattle.wat.specs.declared.{Answer.Answer, Found.Found, Parsed.Parsed, Stop.Stop, Listed.Listed}
-use Rattle.wat.specs.declared.LexError.TheVariants.{DanglingBlockComment}
-use Rattle.wat.specs.declared.Refusal.TheVariants.{Lexical}
-use Rattle.wat.specs.declared.Found.TheVariants as found
+use Rattle.wat.specs.declared.{Fault.Fault, Settings.Settings}
+use Rattle.wat.specs.declared.{Answer.Answer, Parsed.Parsed, Stop.Stop, Listed.Listed}
 use Rattle.wat.specs.declared.Stop.TheVariants as stop
 use Rattle.wat.specs.Utf8.{WellFormed, empty, more}
 use Rattle.wat.specs.Lexing.{Fails, Lexed}
 use Rattle.wat.specs.Calls.{Text, Stands, Parses}
 use Rattle.wat.specs.Division.{Piece, lengths, Divided, Walked, record_size, record_of, records, Stops, Listing}
 use Rattle.wat_laws.specs.Windows.{DecidedAnswer, Decided, DecidedStop}
-use Rattle.wat.proofs.Basics.{differ, below}
+use Rattle.wat.proofs.Basics.{below}
 use Rattle.wat.proofs.Scalars.{after}
 use Rattle.wat.proofs.Unique.{nil_fault}
 use Rattle.wat.proofs.Boundaries.{token_formed}
@@ -140,13 +137,19 @@ module _ (front rest : List ℕ) (whole : Text (front ++ rest)) where
   pub window_listing : {σ : Settings} {start budget : ℕ} {list l : List ℕ} {r : Listed} → Listing σ front start budget list r l
       → DecidedStop front r.stop r.position → Listing σ (front ++ rest) start budget list r l
   window_listing (Listing.rejected t) (DecidedStop.error n h) = absurd (rejected_other t refl)
-  window_listing (Listing.lists s w f g (Stops.end e)) z = elim z [ ]
-  window_listing (Listing.lists s w f g (Stops.budget h e)) DecidedStop.budget =
-      lists_window w h f g (Stops.budget (omega (arith, length-append front rest)) e)
-  window_listing (Listing.lists {at = at} s w f g (Stops.fault b x)) (DecidedStop.error n h) =
-      lists_window w (omega arith) f g
-      (Stops.fault b (lexed_at w.stands x (omega (arith, length-drop at front), n)))
-  window_listing (Listing.lists s w f g (Stops.full b i x)) z = elim z [ ]
+  window_listing {σ} {start} {budget} {list} (Listing.lists {ts = ts} s w f g x) z = stopped w x z
+    where
+      stopped : {at p : ℕ} {why : Stop} → Walked σ front start at ts → Stops σ front budget (length list) (length ts) at why p
+          → DecidedStop front why p
+          → Listing σ (front ++ rest) start budget list (record { stop = why; count = length ts; position = p })
+          (records (drop start front) ts ++ drop (record_size * length ts) list)
+      stopped w (Stops.end e) z = elim z [ ]
+      stopped w (Stops.budget h e) DecidedStop.budget =
+          lists_window w h f g (Stops.budget (omega (arith, length-append front rest)) e)
+      stopped {at = at} w (Stops.fault b x) (DecidedStop.error n h) =
+          lists_window w (omega arith) f g
+          (Stops.fault b (lexed_at w.stands x (omega (arith, length-drop at front), n)))
+      stopped w (Stops.full b i x) z = elim z [ ]
 
   -- all but the last token of a walk over the front, as a listing
   pub window_listing_last : {σ : Settings} {start at : ℕ} {list : List ℕ} (us : List Piece) (t : Piece)
