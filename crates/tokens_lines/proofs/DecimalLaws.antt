@@ -1,6 +1,6 @@
 -- Numbers in decimal: the kit's figures are the definition's, and how many there are. Assumes nothing.
 use Prim.Native.Nat.{ℕ, zero, suc, ◌+◌, ◌-◌, ◌/◌, ◌%◌, ◌^◌, ◌≤◌, ◌<◌}
-use mathlib.Core.Path.{◌≡◌, refl, sym, ap}
+use mathlib.Core.Path.{◌≡◌, refl, sym}
 use mathlib.Core.Bool.{Bool, true, false}
 use mathlib.Core.List.{[], ◌∷◌}
 use native.Mathlib.Omega.{arith}
@@ -11,7 +11,7 @@ use borrow.Author.Tests.{lt-ltb, le-ltb}
 use Rattle.io.specs.Digits.{hex_digit_ascii, last_digits, IsDigitCount}
 use Rattle.wat.specs.Bytes.{byte}
 use Rattle.tokens_lines.specs.Lines.{decimal_by, decimal}
-use Rattle.tokens_lines.specs.Room.{most_figures, small, longest_small}
+use Rattle.tokens_lines.specs.Room.{small, longest_small}
 
 power_some : (k : ℕ) → 0 < 10 ^ k
 power_some zero = omega arith
@@ -70,14 +70,3 @@ short_by (suc k) (suc j) n h = go (ltb n 10) refl (short_by k j (n / 10))
 pub decimal_short : (n : ℕ) → n < small → length (decimal n) + 1 ≤ longest_small
 unfolding decimal
 decimal_short n h = omega (arith, short_by 4 n n h)
-
-digits_length : (k n : ℕ) → length (last_digits 10 k n) ≡ k
-digits_length zero n = refl
-digits_length (suc k) n = omega (arith, length-append (last_digits 10 k (n / 10)) (hex_digit_ascii (n % 10) ∷ []), digits_length k (n / 10))
-
--- a number of 64 bits: 2 to the power of 64 has twenty figures
-pub figures_most : (k n : ℕ) → n < 2 ^ 64 → IsDigitCount 10 1 n k → k ≤ most_figures
-unfolding decimal
-figures_most k n h f =
-    let l : n < 10 ^ 20 = omega arith in
-    omega (arith, digits_length k n, ap length (decimal_digits k n f), short_by 19 n n l)

@@ -1,4 +1,7 @@
 // The lines that `wat-tokens` prints, written one behind the other into a buffer. specs/Lines.antt says what they are.
+
+#![tactic(auto)]
+
 ghost use Rattle.std.specs.Prelude.{◌≡◌, ℕ, ◌+◌, ◌≤◌, ◌<◌, [], ◌∷◌, ◌++◌, length};
 ghost use Rattle.wat.specs.{Bytes.bytes, Cases.number};
 ghost use Rattle.tokens_spelt.specs.Details.{detail, longest_name, longest_detail};
