@@ -1,6 +1,6 @@
 -- Laws of one character: at a place, as a digit, and as a letter after `\`. Assumes nothing.
 use Prim.Native.Nat.{ℕ, zero, suc, ◌≤◌, ◌<◌}
-use mathlib.Core.Path.{◌≡◌, refl, sym, ap, subst, ◌∙◌}
+use mathlib.Core.Path.{◌≡◌, refl, sym, ap, ◌∙◌}
 use mathlib.Core.Logic.{⊎_elim}
 use mathlib.Core.List.{List, [], ◌∷◌}
 use mathlib.Core.Option.{Option, none, some}
@@ -9,36 +9,23 @@ use native.Mathlib.Omega.{arith}
 use native.Mathlib.Nat.{add-zero}
 use lib.ListN.{length, get_or, take, drop}
 use lib.Seq.{drop-cons, get_or-take, get_or-drop}
-use borrow.Author.Tests.{lt-ltb, le-ltb, ne_eqb}
-use Rattle.wat.specs.Bytes.{byte}
+use borrow.Author.Tests.{lt-ltb, le-ltb}
 use Rattle.wat.specs.Utf8.{scalar}
 use Rattle.wat.specs.declared.Front.TheVariants.{Whole}
 use Rattle.wat.specs.Utf8Model.{front}
 use Rattle.wat.specs.Chars.{is_scalar}
-use Rattle.wat.specs.Strings.{escapes}
-use Rattle.wat.specs.StringModel as model
-use Rattle.wat.specs.StringModel.{nothing, peek, hex_of, encode}
+use Rattle.wat.specs.StringModel.{hex_of, encode}
 use Rattle.wat.proofs.Utf8Laws.{char_front}
 use Rattle.wat.proofs.ScalarValues.{char_right}
 use Rattle.wat.proofs.Scalars.{ascii, alone_at, scalar_split}
 use Rattle.wat.proofs.Basics.{below}
 use Rattle.wat.proofs.HexDigits.{of_hex, hex_ascii}
-use Rattle.utf8_chars.specs.Decoding.{Character, Decodes}
-use Rattle.utf8_chars.specs.declared.Decoded.{Decoded}
-use Rattle.utf8_chars.specs.declared.Decoded.TheVariants as decoded
+use Rattle.utf8_chars.specs.Decoding.{Character}
 use Rattle.utf8_chars.proofs.DecodeLaws.{decoded_char}
 use Rattle.utf8_chars.proofs.CharBytes.{wide_scalar}
 use Rattle.buffers.proofs.EncodeLaws.{long_1, long_2, long_3, long_4}
 use Rattle.lex_classes.specs.Ask.{digit_of}
 use Rattle.lex_escapes.specs.Elements.{letter_of}
-
--- what `decode` says, by its answer
-
-pub is_char : (s : List ℕ) (at : ℕ) {r : Decoded} {v n : ℕ} → Decodes s at r → r ≡ decoded.Char v n → Character s at v n
-is_char s at d e = subst (λ r. Decodes s at r) e d
-
-pub is_nothing : (s : List ℕ) (at : ℕ) {r : Decoded} → Decodes s at r → r ≡ decoded.Nothing → peek (drop at s) ≡ nothing
-is_nothing s at d e = subst (λ r. Decodes s at r) e d
 
 -- an ASCII byte is a character by itself
 pub ascii_character : (s : List ℕ) (at v : ℕ) → at < length s → get_or s at 0 < 0x80 → v ≡ get_or s at 0 → Character s at v 1
@@ -92,21 +79,6 @@ letter_is (suc r) e f = e
 
 pub letter_not : {o : Option ℕ} (r : ℕ) → o ≡ letter_of r → r ≡ 0 → o ≡ none
 letter_not r e f = e ∙ ap letter_of f
-
-pub no_letter :
-    (c : ℕ) → (c ≡ byte "t" → ⊥) → (c ≡ byte "n" → ⊥) → (c ≡ byte "r" → ⊥) → (c ≡ byte "\"" → ⊥)
-    → (c ≡ byte "'" → ⊥) → (c ≡ byte "\\" → ⊥)
-    → model.letter_of escapes c ≡ none
-unfolding escapes
-no_letter c t n r q a b =
-    rw (
-      ne_eqb c (byte "t") t,
-      ne_eqb c (byte "n") n,
-      ne_eqb c (byte "r") r,
-      ne_eqb c (byte "\"") q,
-      ne_eqb c (byte "'") a,
-      ne_eqb c (byte "\\") b,
-    )
 
 pub scalar_small : (n : ℕ) → is_scalar n ≡ true → n < 0x110000
 scalar_small n e = ⊎_elim (λ h. omega arith) (λ h. omega arith) (scalar_split n e)

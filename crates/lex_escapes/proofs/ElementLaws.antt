@@ -1,16 +1,15 @@
 -- What the model reads at a character, in the terms of the code: a law for each way to return. Assumes nothing.
-use Prim.Native.Nat.{ℕ, ◌+◌, ◌*◌, ◌≤◌, ◌<◌}
-use mathlib.Core.Path.{◌≡◌, refl, sym, ap, subst, ◌∙◌}
+use Prim.Native.Nat.{ℕ, ◌+◌, ◌-◌, ◌*◌, ◌≤◌, ◌<◌}
+use mathlib.Core.Path.{◌≡◌, refl, sym, ap, ◌∙◌}
 use mathlib.Core.List.{List, [], ◌∷◌, ◌++◌}
 use mathlib.Core.Option.{none, some}
 use mathlib.Core.Bool.{Bool, true, false}
 use native.Mathlib.Omega.{arith}
 use lib.Dec.{eqb}
-use lib.ListN.{length, take, drop, length-drop, take-append-drop}
+use lib.ListN.{length, get_or, take, drop, length-drop, take-append-drop}
 use lib.Seq.{drop-drop}
 use borrow.Author.Tests.{eq-eqb, ne_eqb}
 use Rattle.wat.specs.Bytes.{byte}
-use Rattle.wat.specs.declared.Fault.{Fault}
 use Rattle.wat.specs.Faults.{fault}
 use Rattle.wat.specs.declared.LexError.TheVariants.{InvalidStringElement, InvalidStringEscape, InvalidHexDigit, Expected, UnexpectedEof}
 use Rattle.wat.specs.declared.LexError.TheVariants.{NumberTooBig, InvalidUnicodeValue, LoneUnderscore, ConfusingUnicode, DoubleUnderscore}
@@ -23,11 +22,13 @@ use Rattle.wat.specs.declared.Num.TheVariants.{Is as num, Lone as lone, Big as b
 use Rattle.wat.specs.StringModel.{nothing, peek, hex_of, digits, encode, letter_of, Read, element, quote, refused}
 use Rattle.wat.specs.StringModel.{close_by, number_by, first_by, brace_by, second_by, escape_by, hides, read_by, read}
 use Rattle.utf8_chars.specs.Decoding.{Character}
-use Rattle.lex_escapes.specs.Elements.{Element, Refuses, Says}
+use Rattle.lex_escapes.specs.Elements.{Counted, Element, Says}
 use Rattle.lex_escapes.specs.declared.Read as declared
-use Rattle.lex_escapes.specs.declared.Read.TheVariants.{Byte, Char, Quote, Refused}
 use Rattle.lex_classes.proofs.ConfusingLaws.{confusing_not}
-use Rattle.lex_escapes.proofs.CharLaws.{alone, alone_hex, encoded}
+use Rattle.wat.proofs.ElementFaults.{high_raw}
+use Rattle.utf8_chars.proofs.DecodeLaws.{decoded_end}
+use Rattle.lex_escapes.proofs.CharLaws.{ascii_character, alone, alone_hex, high, encoded, encode_short}
+use Rattle.lex_escapes.proofs.CharLaws.{digit_is, digit_not, letter_is, letter_not, scalar_small}
 
 -- ---- an answer and its bounds, by the place in the text
 
@@ -36,27 +37,8 @@ module _ (s : List ℕ) (at : ℕ) where
       → Element (drop at s) m n v
   an_element e h k l = record { is = e; some = h; fits = omega (arith, length-drop at s); short = l }
 
-  pub a_refusal : {m : Read} {f : Fault} → m ≡ refused f → f.place ≤ f.after → at + f.after ≤ length s
-      → Refuses (drop at s) m f
-  a_refusal e h k = record { is = e; order = h; fits = omega (arith, length-drop at s) }
-
   pub says_same : (r : declared.Read) {m m' : Read} → m ≡ m' → Says (drop at s) m' r → Says (drop at s) m r
   says_same r e x = rw e x
-
--- ---- what `element` says, by its answer
-
-module _ (t : List ℕ) (m : Read) {r : declared.Read} (x : Says t m r) where
-  pub says_byte : {b n : ℕ} → r ≡ Byte b n → Element t m n (b ∷ [])
-  says_byte e = subst (λ r. Says t m r) e x
-
-  pub says_char : {c n : ℕ} → r ≡ Char c n → Element t m n (encode c) × (c < 0x110000)
-  says_char e = subst (λ r. Says t m r) e x
-
-  pub says_quote : r ≡ Quote → (m ≡ quote) × (1 ≤ length t)
-  says_quote e = subst (λ r. Says t m r) e x
-
-  pub says_refused : {f : Fault} → r ≡ Refused f → Refuses t m f
-  says_refused e = subst (λ r. Says t m r) e x
 
 -- ---- the text ends
 
@@ -105,6 +87,16 @@ module _ (t : List ℕ) (m : Num) where
   pub number_double : (k : ℕ) → double k ≡ m → number_by t m ≡ refused (fault DoubleUnderscore (3 + k) (4 + k))
   unfolding number_by
   number_double k q = rw (← q)
+
+-- the same, where the code has read it
+module _ (t u : List ℕ) (m : Num) where
+  pub read_value :
+      (n k : ℕ) → Counted u m (num n k) → is_scalar n ≡ false
+      → number_by t m ≡ refused (fault (InvalidUnicodeValue n) (2 + k) (3 + k))
+  read_value n k x e = number_value t m n k x.is e x.some
+
+  pub read_lone : (k : ℕ) → Counted u m (lone k) → number_by t m ≡ refused (fault LoneUnderscore (2 + k) (3 + k))
+  read_lone k x = number_lone t m k x.is x.some
 
 pub number_scalar :
     (s : List ℕ) (i j n k : ℕ) (m : Num) → num n k ≡ m → j ≡ i + k → is_scalar n ≡ true
@@ -252,3 +244,79 @@ ascii_shown σ v h = go σ.allow_confusing refl
     go : (b : Bool) → σ.allow_confusing ≡ b → hides σ v ≡ false
     go true e = rw (e, hides)
     go false e = rw (e, hides) (confusing_not v (omega arith))
+
+-- ---- the same of an ASCII byte, which is a character by itself
+
+module _ (s : List ℕ) (at v : ℕ) (σ : Settings) (h : at < length s) (l : get_or s at 0 < 0x80) (q : v ≡ get_or s at 0) where
+  here : Character s at v 1
+  here = ascii_character s at v h l q
+
+  pub ascii_quoted : v ≡ byte "\"" → read σ (drop at s) ≡ quote
+  ascii_quoted e = read_quoted s at v 1 here σ e
+
+  module _ (f : v ≡ byte "\"" → ⊥) where
+    pub ascii_escape : v ≡ byte "\\" → read σ (drop at s) ≡ escape_by σ (peek (drop (at + 1) s))
+    ascii_escape e = read_escape s at v 1 here σ f e
+
+    module _ (g : v ≡ byte "\\" → ⊥) where
+      pub ascii_control : control v ≡ true → read σ (drop at s) ≡ refused (fault (InvalidStringElement v) 0 1)
+      ascii_control e = read_control s at v 1 here σ f g e
+
+      pub ascii_raw : control v ≡ false → read σ (drop at s) ≡ element 1 (encode v)
+      ascii_raw e = read_raw s at v 1 here σ f g e (ascii_shown σ v (omega arith))
+
+  pub ascii_long : length (encode v) ≡ 1
+  ascii_long = ap length (encoded s at v 1 here) ∙ here.long
+
+-- ---- the same of a character whose first byte is not ASCII
+
+module _ (s : List ℕ) (at v n : ℕ) (σ : Settings) (ch : Character s at v n) (h : 0x80 ≤ get_or s at 0) where
+  above : 0x80 ≤ v
+  above = high s at v n ch h
+
+  pub wide_hidden : hides σ v ≡ true → read σ (drop at s) ≡ refused (fault (ConfusingUnicode v) 0 n)
+  wide_hidden e =
+      let w = above in
+      read_hidden s at v n ch σ (λ q. omega arith) (λ q. omega arith) (high_raw v w) e
+
+  pub wide_raw : hides σ v ≡ false → read σ (drop at s) ≡ element n (encode v)
+  wide_raw e =
+      let w = above in
+      read_raw s at v n ch σ (λ q. omega arith) (λ q. omega arith) (high_raw v w) e
+
+  pub wide_long : length (encode v) ≡ n
+  wide_long = ap length (encoded s at v n ch) ∙ ch.long
+
+-- what is left of the text at a place
+pub left_long : (s : List ℕ) (at : ℕ) → length (drop at s) ≡ length s - at
+left_long s at = length-drop at s
+
+-- the ways to return, by the function
+pub ruleset closes = (left_long, close_end, close_yes, close_no, encode_short, scalar_small)
+
+pub ruleset numbers = (left_long, says_same, number_scalar, read_value, read_lone, number_big, number_double)
+
+pub ruleset firsts = (left_long, says_same, first_end, first_yes, first_no, digit_is, digit_not)
+
+pub ruleset braces = (left_long, says_same, brace_end, brace_yes, brace_no)
+
+pub ruleset seconds = (left_long, second_end, second_yes, second_no, digit_is, digit_not)
+
+pub ruleset escaped = (
+  left_long,
+  says_same,
+  escape_end,
+  escape_unicode,
+  escape_letter,
+  escape_digit,
+  escape_no,
+  digit_is,
+  digit_not,
+  letter_is,
+  letter_not,
+)
+
+pub ruleset wides = (left_long, read_nothing, wide_hidden, wide_raw, wide_long)
+
+pub ruleset elements =
+    (left_long, says_same, decoded_end, read_nothing, ascii_quoted, ascii_escape, ascii_control, ascii_raw, ascii_long)

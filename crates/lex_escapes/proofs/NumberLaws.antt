@@ -1,6 +1,6 @@
 -- Laws for the loop that reads the number of `\u{..}`. Assumes nothing.
 use Prim.Native.Nat.{ℕ, suc, ◌+◌, ◌-◌, ◌*◌, ◌^◌, ◌≤◌, ◌<◌}
-use mathlib.Core.Path.{◌≡◌, refl, sym, subst, ◌∙◌}
+use mathlib.Core.Path.{◌≡◌, refl, sym, ◌∙◌}
 use mathlib.Core.List.{List, ◌∷◌}
 use mathlib.Core.Option.{none, some}
 use mathlib.Core.Bool.{Bool, true, false, ◌&&◌}
@@ -14,6 +14,7 @@ use Rattle.wat.specs.StringModel.{hex_of, close, digits}
 use Rattle.wat.proofs.HexDigits.{of_hex, hex_small, no_digit, goes_split}
 use Rattle.wat.proofs.Hexnums.{under, under_twice, on_digit, on_big, on_stop}
 use Rattle.lex_escapes.specs.Elements.{consumed, Counted}
+use Rattle.lex_escapes.proofs.CharLaws.{digit_is, digit_not}
 use Rattle.wat.specs.declared.Num.{Num}
 use Rattle.wat.specs.declared.Num.TheVariants.{Big, Double}
 
@@ -96,5 +97,6 @@ module _ (σ : Settings) (s : List ℕ) (at first i v : ℕ) (u : Bool) (r : Run
             (rw (drop-cons s i 0 h) (on_big σ u v (1 + (i - at)) (drop (suc i) s) (of_hex (get_or s i 0) d e) a))
             (omega arith) (omega (arith, r.more))
 
-pub counted_as : (t : List ℕ) {m r q : Num} → Counted t m r → r ≡ q → Counted t m q
-counted_as t {m} x e = subst (λ r. Counted t m r) e x
+-- what the loop keeps, and its answers
+pub ruleset runs =
+    (run_start, run_end, run_double, run_under, run_stop, run_digit, run_big, digit_is, digit_not)

@@ -2,6 +2,8 @@
 // of wat's model, in the order in which the characters are asked for; `place`, `after` and `len` count from the
 // element's first byte.
 
+#![tactic(auto)]
+
 ghost use Rattle.std.specs.Prelude.{◌≡◌, ◌+◌, ◌≤◌, ◌<◌, length, get_or, drop};
 ghost use Rattle.wat.specs.Strings.{escapes};
 ghost use Rattle.wat.specs.StringModel as model;
@@ -16,7 +18,7 @@ mod unicode;
 
 // What stands where an element or the closing quote is looked for: an element of so many bytes that stands for a byte
 // or for a character; the quote; or a fault, whose position afterwards is past what was consumed.
-#[derive(Drop)]
+#[derive(Clone, Copy)]
 pub enum Read {
     Byte { value: u8, len: usize },
     Char { value: u32, len: usize },
@@ -25,6 +27,7 @@ pub enum Read {
 }
 
 // An element or the closing quote, at any position of any bytes; where no character stands, the text ends for it.
+#[tactic(auto, using(crate::proofs::ElementLaws::elements))]
 pub fn element(s: &[u8], at: usize, settings: Settings, t: &[u8; 256]) -> Read
     requires { Classes t.now }
     ensures { Says (drop at s.now) (model.read settings (drop at s.now)) result }
@@ -58,6 +61,7 @@ pub fn element(s: &[u8], at: usize, settings: Settings, t: &[u8; 256]) -> Read
 }
 
 // The same where the byte is not ASCII: `"`, `\` and what 12 refuses are ASCII.
+#[tactic(auto, using(crate::proofs::ElementLaws::wides))]
 fn wide_element(s: &[u8], at: usize, settings: Settings) -> Read
     requires { 0x80 ≤ get_or s.now at 0 }
     ensures { Says (drop at s.now) (model.read settings (drop at s.now)) result }
@@ -80,6 +84,7 @@ fn wide_element(s: &[u8], at: usize, settings: Settings) -> Read
 }
 
 // Whether a raw character is refused by 21.
+#[tactic(auto, unfolding(wat::specs::StringModel::hides))]
 fn hides(settings: Settings, c: u32) -> bool
     ensures { result ≡ model.hides settings c }
 {
@@ -90,6 +95,7 @@ fn hides(settings: Settings, c: u32) -> bool
 }
 
 // The escape that starts at `at`, after its `\`.
+#[tactic(auto, using(crate::proofs::ElementLaws::escaped))]
 fn escape(s: &[u8], at: usize, settings: Settings, t: &[u8; 256]) -> Read
     requires at_in_bounds { at + 1 ≤ length s.now }
     requires classes { Classes t.now }
@@ -122,6 +128,7 @@ fn escape(s: &[u8], at: usize, settings: Settings, t: &[u8; 256]) -> Read
 }
 
 // The byte that a letter after `\` stands for, or 0 for any other character.
+#[tactic(auto, unfolding(wat::specs::Strings::escapes))]
 fn letter(c: u32) -> u8
     ensures { model.letter_of escapes c ≡ letter_of result }
 {
@@ -137,6 +144,7 @@ fn letter(c: u32) -> u8
 }
 
 // After `\` and a digit of value `high`: the Rust's `hexdigit`.
+#[tactic(auto, using(crate::proofs::ElementLaws::seconds))]
 fn second_digit(s: &[u8], at: usize, high: u8, t: &[u8; 256]) -> Read
     requires at_in_bounds { (at + 2 ≤ length s.now) × (high < 16) }
     requires classes { Classes t.now }
@@ -165,6 +173,7 @@ fn second_digit(s: &[u8], at: usize, high: u8, t: &[u8; 256]) -> Read
 }
 
 // The next character, or nothing. An ASCII one needs no decoding.
+#[tactic(auto, using(utf8_chars::proofs::DecodeLaws::decoded_end))]
 pub fn must_char(s: &[u8], at: usize) -> Decoded
     ensures { Decodes s.now at result }
 {

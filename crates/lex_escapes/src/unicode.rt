@@ -10,6 +10,7 @@ use utf8_chars::Decoded;
 use wat::{Fault, LexError, Num, Settings};
 
 // After `\u`: the Rust's `must_eat_char` for `{`.
+#[tactic(auto, using(crate::proofs::ElementLaws::braces))]
 pub fn open_brace(s: &[u8], at: usize, settings: Settings, t: &[u8; 256]) -> Read
     requires at_in_bounds { at + 2 ≤ length s.now }
     requires classes { Classes t.now }
@@ -37,6 +38,7 @@ pub fn open_brace(s: &[u8], at: usize, settings: Settings, t: &[u8; 256]) -> Rea
 }
 
 // After `\u{`: the Rust's `hexnum` up to its loop.
+#[tactic(auto, using(crate::proofs::ElementLaws::firsts))]
 fn first_digit(s: &[u8], at: usize, settings: Settings, t: &[u8; 256]) -> Read
     requires at_in_bounds { at + 3 ≤ length s.now }
     requires classes { Classes t.now }
@@ -62,6 +64,7 @@ fn first_digit(s: &[u8], at: usize, settings: Settings, t: &[u8; 256]) -> Read
 }
 
 // After `\u{` and a digit of value `first`. The number must be a scalar value before `}` is looked for.
+#[tactic(auto, using(crate::proofs::ElementLaws::numbers))]
 fn unicode_value(s: &[u8], at: usize, first: u32, settings: Settings, t: &[u8; 256]) -> Read
     requires at_in_bounds { at + 4 ≤ length s.now }
     requires classes { Classes t.now }
@@ -99,6 +102,7 @@ fn unicode_value(s: &[u8], at: usize, first: u32, settings: Settings, t: &[u8; 2
 }
 
 // After `\u{` and a number of `len` bytes: the Rust's `must_eat_char` for `}`.
+#[tactic(auto, using(crate::proofs::ElementLaws::closes))]
 fn close_brace(s: &[u8], at: usize, value: u32, len: usize) -> Read
     requires { (at + (3 + len) ≤ length s.now) × (is_scalar value ≡ true) }
     ensures { Says (drop at s.now)
@@ -133,6 +137,7 @@ fn close_brace(s: &[u8], at: usize, value: u32, len: usize) -> Read
 
 // The number of `\u{..}` whose first digit has the value `first` and ends at `at`: the loop of the Rust's `hexnum`. Where
 // digits are strict, the second underscore of a pair is refused as it is met.
+#[tactic(auto, using(crate::proofs::NumberLaws::runs))]
 fn hexnum(s: &[u8], at: usize, first: u32, settings: Settings, t: &[u8; 256]) -> Num
     requires at_in_bounds { at ≤ length s.now }
     requires classes { Classes t.now }
