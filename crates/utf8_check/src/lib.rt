@@ -1,6 +1,8 @@
 // The check of a text: whether it is well-formed UTF-8, as Rust's `std::str` says. What is right is said by the Unicode
 // Standard's table of well-formed sequences, `wat/specs/Utf8.antt`.
 
+#![tactic(auto)]
+
 ghost use Rattle.wat.specs.Utf8.{Says};
 
 use wat::{Checked, Front};
