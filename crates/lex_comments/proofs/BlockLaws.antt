@@ -16,9 +16,9 @@ use Rattle.wat.specs.CommentModel.{fresh, further, opens, ends}
 use Rattle.wat.proofs.Blocks.{further_further}
 use Rattle.wat.proofs.Basics.{or_split, or_no, below}
 use Rattle.lex_classes.proofs.SearchLaws.{clear_carries}
-use Rattle.lex_comments.specs.Find.{Without}
+use Rattle.lex_comments.specs.Find.{Without, Sought}
 use Rattle.lex_comments.specs.Ends.{mark, mark_at, end_of, BlockEnd}
-use Rattle.lex_comments.proofs.FindLaws.{front, byte_behind, without_then}
+use Rattle.lex_comments.proofs.FindLaws.{front, byte_behind, without_then, finds}
 
 -- ---- marks
 
@@ -128,42 +128,63 @@ module _ (s : List ℕ) (at : ℕ) where
       (ap (ends fresh l) (front s k h) ∙ ends_plain l (get_or s k 0) (drop (k + 1) s) (ap (mark (get_or s k 0)) q ∙ e))
 
   -- no mark stands before k
-  pub inside_plain : (i l k : ℕ) → Inside s at i l → Without mark_at s i k → Inside s at k l
+  inside_plain : (i l k : ℕ) → Inside s at i l → Without mark_at s i k → Inside s at k l
   inside_plain i l k p q =
       clear_carries (λ j. Inside s at j l) (mark_at s) i k q.on q.clear p
       (λ j h r e. inside_next l j (omega (arith, h, q.within)) r e)
 
-  module _ (k l : ℕ) (p : Inside s at k l) where
+  module _ (k l : ℕ) (p : Inside s at k l) (m : mark_at s k ≡ true) where
+    next_two : drop k s ≡ get_or s k 0 ∷ get_or s (k + 1) 0 ∷ drop (k + 2) s
+    next_two =
+        let h = mark_whole s k m in
+        let e : k + 2 ≡ k + 1 + 1 = omega arith in
+        rw e (front s k (omega arith) ∙ ap (λ (z : List ℕ). get_or s k 0 ∷ z) (front s (k + 1) (omega arith)))
+
+    opened : get_or s k 0 ≡ byte "(" → Inside s at (k + 2) (l + 1)
+    opened a =
+        let b = mark_open (get_or s k 0) (get_or s (k + 1) 0) m a in
+        moved 2 (l + 1) p (mark_whole s k m) (omega (arith, p.shallow)) (rw (next_two, a, b, add-one l) (ends_open l (drop (k + 2) s)))
+
+    module _ (o : get_or s k 0 ≡ byte "(" → ⊥) where
+      closes : drop k s ≡ byte ";" ∷ byte ")" ∷ drop (k + 2) s
+      closes = let c = mark_close (get_or s k 0) (get_or s (k + 1) 0) m o in rw (next_two, c.0, c.1)
+
+      closed : 0 < l → Inside s at (k + 2) (l - 1)
+      closed d =
+          let e : l ≡ suc (l - 1) = omega arith in
+          let f : ends fresh l (drop k s) ≡ further 2 (ends fresh (l - 1) (drop (k + 2) s)) =
+          ap (λ (n : ℕ). ends fresh n (drop k s)) e ∙ rw closes (ends_close (l - 1) (drop (k + 2) s)) in
+          moved 2 (l - 1) p (mark_whole s k m) (omega (arith, p.shallow)) f
+
+      ended : l ≡ 0 → BlockEnd s at (k + 2)
+      ended z =
+          let f : ends fresh l (drop k s) ≡ some 2 = rw (z, closes) (ends_last (drop (k + 2) s)) in
+          record { end = ap (end_of k) (sym f) ∙ p.same; within = mark_whole s k m }
+
+  -- from a place i inside l comments, by the next mark
+  module _ (i k l : ℕ) (q : Sought mark_at mark_at s i (length s) k) (a : Inside s at i l) where
+    here : Inside s at k l
+    here = inside_plain i l k a q.passed
+
     pub inside_none : k ≡ length s → BlockEnd s at 0
     unfolding ends
     inside_none h =
         let e : ends fresh l (drop k s) ≡ none = ap (ends fresh l) (drop_of_length-le s {i = k} (omega arith)) in
-        record { end = sym (ap (end_of k) e) ∙ p.same; within = omega arith }
+        record { end = sym (ap (end_of k) e) ∙ here.same; within = omega arith }
 
-    module _ (m : mark_at s k ≡ true) where
-      next_two : drop k s ≡ get_or s k 0 ∷ get_or s (k + 1) 0 ∷ drop (k + 2) s
-      next_two =
-          let h = mark_whole s k m in
-          let e : k + 2 ≡ k + 1 + 1 = omega arith in
-          rw e (front s k (omega arith) ∙ ap (λ (z : List ℕ). get_or s k 0 ∷ z) (front s (k + 1) (omega arith)))
+    module _ (n : k ≡ length s → ⊥) where
+      is : mark_at s k ≡ true
+      is = q.stops (omega (arith, q.passed.within))
 
       pub inside_open : get_or s k 0 ≡ byte "(" → Inside s at (k + 2) (l + 1)
-      inside_open a =
-          let b = mark_open (get_or s k 0) (get_or s (k + 1) 0) m a in
-          moved 2 (l + 1) p (mark_whole s k m) (omega (arith, p.shallow)) (rw (next_two, a, b, add-one l) (ends_open l (drop (k + 2) s)))
+      inside_open o = opened k l here is o
 
-      module _ (o : get_or s k 0 ≡ byte "(" → ⊥) where
-        closes : drop k s ≡ byte ";" ∷ byte ")" ∷ drop (k + 2) s
-        closes = let c = mark_close (get_or s k 0) (get_or s (k + 1) 0) m o in rw (next_two, c.0, c.1)
+      pub inside_close : (get_or s k 0 ≡ byte "(" → ⊥) → (l ≡ 0 → ⊥) → Inside s at (k + 2) (l - 1)
+      inside_close o z = closed k l here is o (omega arith)
 
-        pub inside_close : 0 < l → Inside s at (k + 2) (l - 1)
-        inside_close d =
-            let e : l ≡ suc (l - 1) = omega arith in
-            let f : ends fresh l (drop k s) ≡ further 2 (ends fresh (l - 1) (drop (k + 2) s)) =
-            ap (λ (n : ℕ). ends fresh n (drop k s)) e ∙ rw closes (ends_close (l - 1) (drop (k + 2) s)) in
-            moved 2 (l - 1) p (mark_whole s k m) (omega (arith, p.shallow)) f
+      pub inside_last : (get_or s k 0 ≡ byte "(" → ⊥) → l ≡ 0 → BlockEnd s at (k + 2)
+      inside_last o = ended k l here is o
 
-        pub inside_last : l ≡ 0 → BlockEnd s at (k + 2)
-        inside_last z =
-            let f : ends fresh l (drop k s) ≡ some 2 = rw (z, closes) (ends_last (drop (k + 2) s)) in
-            record { end = ap (end_of k) (sym f) ∙ p.same; within = mark_whole s k m }
+pub ruleset marks = (finds, without_end)
+
+pub ruleset blocks = (inside_start, inside_none, inside_open, inside_close, inside_last)

@@ -1,5 +1,5 @@
 -- Looking for a place that passes a test: how a search goes on, and what it finds. Assumes nothing.
-use Prim.Native.Nat.{ℕ, ◌+◌, ◌≤◌, ◌<◌}
+use Prim.Native.Nat.{ℕ, ◌+◌, ◌≤◌, ◌<◌, min}
 use mathlib.Core.Path.{◌≡◌, refl, ap, ◌∙◌}
 use mathlib.Core.Logic.{⊎_elim}
 use mathlib.Core.Bool.{Bool, true, false, ◌||◌, or-false}
@@ -11,9 +11,10 @@ use lib.ListN.{length, get_or, drop}
 use lib.Seq.{drop-cons, get_or-drop}
 use Rattle.wat.specs.Bytes.{has}
 use Rattle.wat.proofs.Basics.{below}
-use Rattle.lex_classes.specs.Scan.{Passed, Scanned, First}
+use Rattle.lex_classes.specs.Scan.{Passed, Scanned, First, placed}
 use Rattle.lex_classes.proofs.ScanLaws.{passed_stop, passed_end}
 use Rattle.lex_classes.proofs.SearchLaws.{clear_none, clear_then, clear_one, first_clear, none_passed}
+use Rattle.lex_classes.proofs.SearchLaws.{Least, least_none, least_next, least_first}
 use Rattle.lex_comments.specs.Find.{among, byte_at, Without, Sought}
 
 pub among_or : (x y b : ℕ) → among x y b ≡ eqb x b || eqb y b
@@ -85,3 +86,25 @@ module _ (test : ℕ → Bool) (s : List ℕ) (at r : ℕ) where
   sought_all q =
       let p = without_passed q.passed in
       ⊎_elim (λ h. passed_stop test false s at r p h (q.stops h)) (λ h. passed_end test false s at r p h) (below r (length s))
+
+-- a block of n places from i on, of which k are looked at: m is the first that passes, and n stands for none
+pub record Sifted (f : ℕ → Bool) (i n k m : ℕ) : Type 0 where
+  pub upto : k ≤ n
+  pub least : Least f i n k m
+
+module _ (f : ℕ → Bool) (i n : ℕ) where
+  pub sifted_none : Sifted f i n 0 n
+  sifted_none = record { upto = omega arith; least = least_none f i n }
+
+  pub sifted_next : (k m m' : ℕ) (c : Bool) → m' ≡ min (placed c n k) m → c ≡ f (i + k) → k < n → Sifted f i n k m
+      → Sifted f i n (k + 1) m'
+  sifted_next k m m' c e q h p = record { upto = omega arith; least = least_next f i n k m m' c h p.least q e }
+
+  pub sifted_first : (k m : ℕ) → n ≤ k → Sifted f i n k m → First f i n m
+  sifted_first k m h p = least_first f i n k m (omega (arith, p.upto)) p.least
+
+pub ruleset sifts = (among_or, sifted_none, sifted_next, sifted_first)
+
+-- a search goes on, and what it finds
+pub ruleset finds =
+    (among_or, without_none, without_one, without_then, without_block, sought_here, sought_past, sought_then, sought_block, sought_all)

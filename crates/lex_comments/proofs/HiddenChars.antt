@@ -1,6 +1,6 @@
 -- Hidden characters: each begins with the byte 0xE2, which in a well-formed text stands at the start of a character.
 -- Assumes nothing.
-use Prim.Native.Nat.{ℕ, zero, suc, ◌+◌, ◌≤◌, ◌<◌}
+use Prim.Native.Nat.{ℕ, zero, suc, ◌+◌, ◌<◌}
 use mathlib.Core.Path.{◌≡◌, refl, sym, ap, ◌∙◌}
 use mathlib.Core.Bool.{Bool, true, false, or_self}
 use mathlib.Core.List.{List, [], ◌∷◌, ◌++◌}

@@ -24,8 +24,8 @@ use Rattle.lex_classes.specs.Ask.{confusing_bytes}
 use Rattle.lex_comments.specs.Confusing.{lead, confusing_at, before, hidden_in}
 use Rattle.wat.specs.declared.Hidden.TheVariants.{Clear, Found}
 use Rattle.lex_comments.proofs.HiddenChars.{lead_is, lead_not, char_tail_low, char_led, glance, glance_led, glance_plain}
-use Rattle.lex_comments.proofs.HiddenChars.{glance_next, glanced, unled_hides, led_plain, led_front}
-use Rattle.lex_comments.proofs.FindLaws.{front, byte_behind, without_also}
+use Rattle.lex_comments.proofs.HiddenChars.{glance_next, glanced, unled_hides, hides_led, led_plain, led_front}
+use Rattle.lex_comments.proofs.FindLaws.{front, byte_behind, without_also, finds}
 
 each_at : {w : List ℕ} (k : ℕ) → Each lead false w → k < length w → lead (get_or w k 0) ≡ false
 each_at k none h = absurd (omega arith)
@@ -155,3 +155,26 @@ module _ (s : List ℕ) (from to : ℕ) where
   seen_plain i k w p q =
       clear_carries (λ j. Seen s from to j) (confusing_at s) i k q.on q.clear p
       (λ j h r e. seen_one j r (omega (arith, h, q.within)) w e)
+
+-- nothing before i is confusing
+pub seen_first : (s : List ℕ) (from to i : ℕ) → Without confusing_at s from i → WellFormed (drop from s) → Seen s from to i
+seen_first s from to i q w = seen_plain s from to from i w (seen_start s from to (omega (arith, q.on, q.within)) w) q
+
+-- from a place i on, by the next byte 0xE2
+module _ (s : List ℕ) (from to i k : ℕ) where
+  here : WellFormed (drop from s) → Seen s from to i → Sought confusing_at (byte_at lead) s i to k → Seen s from to k
+  here w p q = seen_plain s from to i k w p q.passed
+
+  pub lead_whole : WellFormed (drop from s) → Seen s from to i → Sought confusing_at (byte_at lead) s i to k → k < to
+      → to ≤ length s → k + 3 ≤ length s
+  lead_whole w p q h e = seen_whole s from to k (here w p q) (omega arith) w (q.stops h)
+
+  pub lead_found : (c : ℕ) → Sought confusing_at (byte_at lead) s i to k → WellFormed (drop from s) → Seen s from to i → k < to
+      → to ≤ length s → c ≡ scalar (take 3 (drop k s)) → confusing c ≡ true
+      → Found k c ≡ hidden_in from to (hidden (suc (length (drop from s))) (drop from s))
+  lead_found c q w p h e g f =
+      rw g (seen_found s from to k (here w p q) (omega arith) (q.stops h) (ap confusing (sym g) ∙ f) h)
+
+pub ruleset sights = (finds, led_sought, hides_led)
+
+pub ruleset seens = (seen_plain, seen_clear, seen_next, lead_found, lead_whole, seen_first)

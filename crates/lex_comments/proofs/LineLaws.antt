@@ -1,5 +1,5 @@
 -- A line comment without the byte 0xE2: it ends where the line ends, and hides no character. Assumes nothing.
-use Prim.Native.Nat.{ℕ, suc, ◌+◌, ◌<◌}
+use Prim.Native.Nat.{ℕ, suc, ◌+◌, ◌≤◌, ◌<◌}
 use mathlib.Core.Path.{◌≡◌, sym}
 use mathlib.Core.Logic.{◌⊎◌, ⊎_elim, ⊎_map}
 use mathlib.Core.Bool.{true, false}
@@ -13,12 +13,12 @@ use Rattle.wat.specs.Chars.{newline}
 use Rattle.wat.specs.LexModel.{hidden}
 use Rattle.wat.specs.declared.Hidden.TheVariants.{Clear}
 use Rattle.wat.proofs.Basics.{or_split, or_no}
-use Rattle.lex_classes.specs.Scan.{Scanned}
+use Rattle.lex_classes.specs.Scan.{Scanned, First}
 use Rattle.lex_classes.proofs.ScanLaws.{scanned_at, scanned_next, scanned_then}
 use Rattle.lex_comments.specs.Find.{byte_at, Without}
 use Rattle.lex_comments.specs.Ends.{line_stop}
 use Rattle.lex_comments.specs.Confusing.{confusing_at, hidden_in}
-use Rattle.lex_comments.proofs.FindLaws.{without_also, without_passed, sought_all}
+use Rattle.lex_comments.proofs.FindLaws.{without_also, without_passed, sought_all, sought_block, finds}
 use Rattle.lex_comments.proofs.HiddenChars.{not_lead, unled_hides}
 use Rattle.lex_comments.proofs.HiddenLaws.{seen_start, seen_plain, seen_clear}
 
@@ -61,3 +61,12 @@ module _ (s : List ℕ) (at k : ℕ) (p : Scanned line_stop false s at k) where
   line_hides_nothing w =
       let q = none_confusing in
       sym (seen_clear s at k k (seen_plain s at k at k w (seen_start s at k (omega (arith, q.on, q.within)) w) q) (omega arith))
+
+-- a line that stops in a block of 64 bytes
+pub line_block : (s : List ℕ) (at i r : ℕ) → First (byte_at line_stop s) i 64 r → r < 64 → Without (byte_at line_stop) s at i
+    → i + 64 ≤ length s → Scanned line_stop false s at (i + r)
+line_block s at i r q h p l =
+    sought_all line_stop s at (i + r)
+    (sought_block (byte_at line_stop) s at i p (byte_at line_stop) (length s) 64 r l q h (λ e. e))
+
+pub ruleset stops = (finds, line_block)

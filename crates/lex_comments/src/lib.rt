@@ -1,5 +1,7 @@
 // Comments: where one ends, and the first confusing character in it.
 
+#![tactic(auto)]
+
 ghost use Rattle.std.specs.Prelude.{◌≡◌, false, suc, ◌+◌, ◌≤◌, length, take, drop};
 ghost use Rattle.wat.specs.Utf8.{WellFormed, scalar};
 ghost use Rattle.wat.specs.Chars.{newline};
@@ -13,6 +15,7 @@ use wat::Hidden;
 
 // How many of the 64 bytes from i on come before the first that is x or y. With so small a test LLVM makes no vector
 // code of a loop over 32.
+#[tactic(auto, using(crate::proofs::FindLaws::sifts))]
 fn first64(x: u8, y: u8, s: &[u8], i: usize) -> usize
     requires { i + 64 ≤ length s.now }
     ensures { First (byte_at (among x y) s.now) i 64 result }
@@ -28,6 +31,7 @@ fn first64(x: u8, y: u8, s: &[u8], i: usize) -> usize
 }
 
 // The place of the first byte that is x or y, byte by byte.
+#[tactic(auto, using(crate::proofs::FindLaws::finds))]
 fn tail(x: u8, y: u8, s: &[u8], at: usize, to: usize) -> usize
     requires { (at ≤ to) × (to ≤ length s.now) }
     ensures { Sought (byte_at (among x y)) (byte_at (among x y)) s.now at to result }
@@ -44,6 +48,7 @@ fn tail(x: u8, y: u8, s: &[u8], at: usize, to: usize) -> usize
 }
 
 // The place of the first byte from `at` on that is x or y, if it stands before `to`; if not, a place from `to` on.
+#[tactic(auto, using(crate::proofs::FindLaws::finds))]
 fn memchr2(x: u8, y: u8, s: &[u8], at: usize, to: usize) -> usize
     requires { (at ≤ to) × (to ≤ length s.now) }
     ensures { Sought (byte_at (among x y)) (byte_at (among x y)) s.now at to result }
@@ -63,6 +68,7 @@ fn memchr2(x: u8, y: u8, s: &[u8], at: usize, to: usize) -> usize
 }
 
 // Where the line of `at` ends: at its LF or CR, or at the end of the text.
+#[tactic(auto, using(crate::proofs::FindLaws::sought_all), unfolding(wat::specs::Chars::newline))]
 pub fn line_end(s: &[u8], at: usize) -> usize
     requires { at ≤ length s.now }
     ensures { Scanned newline false s.now at result }
@@ -71,6 +77,7 @@ pub fn line_end(s: &[u8], at: usize) -> usize
 }
 
 // Whether a line ends at such a byte, or a confusing character may begin with it.
+#[tactic(auto, using(crate::proofs::FindLaws::among_or), unfolding(crate::specs::Ends::line_stop, wat::specs::Chars::newline))]
 fn is_line_stop(b: u8) -> bool
     ensures { result ≡ line_stop b }
 {
@@ -78,6 +85,7 @@ fn is_line_stop(b: u8) -> bool
 }
 
 // How many of the 64 bytes from i on come before the first such byte.
+#[tactic(auto, using(crate::proofs::FindLaws::sifts))]
 fn stop64(s: &[u8], i: usize) -> usize
     requires { i + 64 ≤ length s.now }
     ensures { First (byte_at line_stop s.now) i 64 result }
@@ -93,6 +101,7 @@ fn stop64(s: &[u8], i: usize) -> usize
 
 // Where the line of `at` ends, or the first byte 0xe2 before that: where there is none, nothing in the line is
 // confusing.
+#[tactic(auto, using(crate::proofs::LineLaws::stops))]
 pub fn plain_line(s: &[u8], at: usize) -> usize
     requires { at ≤ length s.now }
     ensures { Scanned line_stop false s.now at result }
@@ -115,6 +124,7 @@ pub fn plain_line(s: &[u8], at: usize) -> usize
 }
 
 // Whether two bytes are a mark, `(;` or `;)`.
+#[tactic(auto, unfolding(crate::specs::Ends::mark))]
 fn is_mark(b: u8, c: u8) -> bool
     ensures { result ≡ mark b c }
 {
@@ -122,6 +132,7 @@ fn is_mark(b: u8, c: u8) -> bool
 }
 
 // The first of the 64 places from i on with a mark.
+#[tactic(auto, using(crate::proofs::FindLaws::sifts))]
 fn mark64(s: &[u8], i: usize) -> usize
     requires { i + 65 ≤ length s.now }
     ensures { First (mark_at s.now) i 64 result }
@@ -136,6 +147,7 @@ fn mark64(s: &[u8], i: usize) -> usize
 }
 
 // The place of the next mark from `at` on, or the text's length: 64 places at a time.
+#[tactic(auto, using(crate::proofs::BlockLaws::marks))]
 fn far_mark(s: &[u8], at: usize) -> usize
     requires { at ≤ length s.now }
     ensures { Sought mark_at mark_at s.now at (length s.now) result }
@@ -159,6 +171,7 @@ fn far_mark(s: &[u8], at: usize) -> usize
 
 // The same, place by place at first: in nested comments the next mark is close by. LLVM unrolls a loop of eight steps,
 // and each then has a branch of its own, which the processor foresees better.
+#[tactic(auto, using(crate::proofs::FindLaws::finds))]
 fn next_mark(s: &[u8], at: usize) -> usize
     requires { at ≤ length s.now }
     ensures { Sought mark_at mark_at s.now at (length s.now) result }
@@ -179,6 +192,7 @@ fn next_mark(s: &[u8], at: usize) -> usize
 
 // The place past a block comment whose `(;` ends at `at`, or 0 if nothing closes it. The marks are ASCII, and in UTF-8
 // no other character has such a byte: bytes are looked at, and no character is decoded.
+#[tactic(auto, using(crate::proofs::BlockLaws::blocks))]
 pub fn block_end(s: &[u8], at: usize) -> usize
     requires { at ≤ length s.now }
     ensures { BlockEnd s.now at result }
@@ -204,6 +218,7 @@ pub fn block_end(s: &[u8], at: usize) -> usize
 }
 
 // The character of the three bytes at `at`.
+#[tactic(auto, using(crate::proofs::HiddenLaws::three_bytes))]
 fn char_at(s: &[u8], at: usize) -> u32
     requires { at + 3 ≤ length s.now }
     ensures { result ≡ scalar (take 3 (drop at s.now)) }
@@ -215,6 +230,7 @@ fn char_at(s: &[u8], at: usize) -> u32
 }
 
 // The first of the 32 places from i on with a confusing character.
+#[tactic(auto, using(crate::proofs::FindLaws::sifts))]
 fn hides32(s: &[u8], i: usize) -> usize
     requires { i + 34 ≤ length s.now }
     ensures { First (confusing_at s.now) i 32 result }
@@ -231,6 +247,7 @@ fn hides32(s: &[u8], i: usize) -> usize
 
 // The place of a byte 0xe2 from `at` on, if it stands before `to`, and if not, a place from `to` on: nothing before it
 // is confusing.
+#[tactic(auto, using(crate::proofs::HiddenLaws::sights))]
 fn next_hidden(s: &[u8], at: usize, to: usize) -> usize
     requires { (at ≤ to) × (to ≤ length s.now) }
     ensures { Sought confusing_at (byte_at lead) s.now at to result }
@@ -250,6 +267,7 @@ fn next_hidden(s: &[u8], at: usize, to: usize) -> usize
 }
 
 // A place before which nothing is confusing: the first byte 0xe2 of a comment. A short one is looked through but once.
+#[tactic(auto, using(crate::proofs::HiddenLaws::sights))]
 fn first_lead(s: &[u8], from: usize, to: usize) -> usize
     requires { (from ≤ to) × (to ≤ length s.now) }
     ensures { Without confusing_at s.now from result }
@@ -262,6 +280,7 @@ fn first_lead(s: &[u8], from: usize, to: usize) -> usize
 
 // The first confusing character of the comment from `from` to `to`. Each of the nine begins with the byte 0xe2, which
 // stands nowhere but at the start of a character, and which most comments do not have.
+#[tactic(auto, using(crate::proofs::HiddenLaws::seens))]
 pub fn check_confusing_comment(s: &[u8], from: usize, to: usize) -> Hidden
     requires from_le_to { (from ≤ to) × (to ≤ length s.now) }
     requires well_formed { WellFormed (drop from s.now) }
