@@ -1,4 +1,6 @@
 // Decodes what a C caller passes: settings (a word of bits) and a token (three words). include/thallusweb.h has them.
+#![tactic(auto)]
+
 ghost use Rattle.std.specs.Prelude.{◌≡◌};
 ghost use Rattle.c_asked.specs.Asked.{settings_of, Empty, Asks};
 
