@@ -68,22 +68,22 @@ pub reads_name_one : {text buffer b b' : List ℕ} {token : Token} {a a' : NameR
     → ReadsName text token buffer a' b' → (a ≡ a') × (b ≡ b')
 reads_name_one (ReadsName.no_name x) (ReadsName.no_name y) = let z = read_one x y in (cc z.0, z.1)
 reads_name_one (ReadsName.no_name x) (ReadsName.in_text t y) = let z = read_one x y in let q = z.0 in differ (cc)
-reads_name_one (ReadsName.no_name x) (ReadsName.in_Buffer t y) = let z = read_one x y in let q = z.0 in differ (cc)
+reads_name_one (ReadsName.no_name x) (ReadsName.in_buffer t y) = let z = read_one x y in let q = z.0 in differ (cc)
 reads_name_one (ReadsName.in_text s x) (ReadsName.no_name y) = let z = read_one x y in let q = z.0 in differ (cc)
 reads_name_one (ReadsName.in_text s x) (ReadsName.in_text t y) = let z = read_one x y in (cc (z.0, (sigil_one s t).0), z.1)
-reads_name_one (ReadsName.in_text s x) (ReadsName.in_Buffer t y) = let z = read_one x y in let q = z.0 in differ (cc)
-reads_name_one (ReadsName.in_Buffer s x) (ReadsName.no_name y) = let z = read_one x y in let q = z.0 in differ (cc)
-reads_name_one (ReadsName.in_Buffer s x) (ReadsName.in_text t y) = let z = read_one x y in let q = z.0 in differ (cc)
-reads_name_one (ReadsName.in_Buffer s x) (ReadsName.in_Buffer t y) = let z = read_one x y in (cc (z.0, (sigil_one s t).0), z.1)
+reads_name_one (ReadsName.in_text s x) (ReadsName.in_buffer t y) = let z = read_one x y in let q = z.0 in differ (cc)
+reads_name_one (ReadsName.in_buffer s x) (ReadsName.no_name y) = let z = read_one x y in let q = z.0 in differ (cc)
+reads_name_one (ReadsName.in_buffer s x) (ReadsName.in_text t y) = let z = read_one x y in let q = z.0 in differ (cc)
+reads_name_one (ReadsName.in_buffer s x) (ReadsName.in_buffer t y) = let z = read_one x y in (cc (z.0, (sigil_one s t).0), z.1)
 
 -- the second call takes one part
 pub second_one : {text buffer v w : List ℕ} {a : Reading} → Second text buffer a v → Second text buffer a w → v ≡ w
 second_one (Second.in_text h) (Second.in_text k) = refl
 second_one (Second.in_text h) (Second.none t b) = absurd (omega (arith, t _ _ refl))
-second_one (Second.in_Buffer h) (Second.in_Buffer k) = refl
-second_one (Second.in_Buffer h) (Second.none t b) = absurd (omega (arith, b _ _ refl))
+second_one (Second.in_buffer h) (Second.in_buffer k) = refl
+second_one (Second.in_buffer h) (Second.none t b) = absurd (omega (arith, b _ _ refl))
 second_one (Second.none t b) (Second.in_text h) = absurd (omega (arith, t _ _ refl))
-second_one (Second.none t b) (Second.in_Buffer h) = absurd (omega (arith, b _ _ refl))
+second_one (Second.none t b) (Second.in_buffer h) = absurd (omega (arith, b _ _ refl))
 second_one (Second.none t b) (Second.none u c) = refl
 
 pub reads_sign_one : {text : List ℕ} {token : Token} {a b : IntegerSign} → ReadsSign text token a → ReadsSign text token b → a ≡ b

@@ -3,14 +3,13 @@
 -- one refusal left is a name that is empty or not UTF-8. Assumes nothing.
 use Prim.Native.Nat.{ℕ, ◌≤◌}
 use mathlib.Core.Path.{◌≡◌, refl, sym, subst}
-use mathlib.Core.Logic.{◌↔◌}
-use mathlib.Core.List.{List, [], ◌∷◌, ◌++◌}
+use mathlib.Core.List.{List}
 use native.Mathlib.Omega.{arith}
 use lib.ListN.{length, drop}
 use lib.Seq.{take-take}
 use Rattle.wat.specs.declared.{IntegerKind.IntegerKind, TokenKind.TokenKind}
 use Rattle.wat.specs.declared.TokenKind.TheVariants as kind
-use Rattle.wat.specs.declared.{Token.Token, LexError.LexError, Refusal.Refusal, Refusal.TheVariants.Lexical, Listed.Listed}
+use Rattle.wat.specs.declared.{Token.Token, Refusal.TheVariants.Lexical, Listed.Listed}
 use Rattle.wat_values.specs.declared.{Reading.Reading, NameKind.NameKind}
 use Rattle.wat.specs.declared.Answer.TheVariants as answer
 use Rattle.wat_values.specs.declared.Reading.TheVariants.{Refused, Absent, Text, Buffer}
@@ -20,9 +19,8 @@ use Rattle.wat.specs.Utf8.{WellFormed}
 use Rattle.wat.specs.Tokens.{Tok}
 use Rattle.wat.specs.Lexing.{Lexed}
 use Rattle.wat.specs.Calls.{Stands}
-use Rattle.wat.specs.Division.{Piece, lengths, Listing}
+use Rattle.wat.specs.Division.{lengths, Listing}
 use Rattle.wat_values.specs.Values.{Reader, Sigil, Takes, Value, part, copy, absent, refused, Reads}
-use Rattle.wat_values.specs.Names.{Misnamed}
 use Rattle.wat_values.specs.Reading.{There, own, needs, found, Handed, Read, Second}
 use Rattle.wat_values.specs.Readable.{bytes_of, filled, Yields, moved, Readable, YieldsName, NameRead, HasSign, SignRead}
 use Rattle.wat_values.specs.Readable.{WordRead, Passes}

@@ -102,7 +102,7 @@ cut_out s a v b e n h = record {
 pub copy_taken : (text v b : List ℕ) → Second text (v ++ b) (Buffer 0 (length v)) v
 copy_taken text v b =
     let c = cut_out (v ++ b) [] v b refl 0 refl in
-    subst (Second text (v ++ b) (Buffer 0 (length v))) c.is (Second.in_Buffer c.fits)
+    subst (Second text (v ++ b) (Buffer 0 (length v))) c.is (Second.in_buffer c.fits)
 
 module _ (text : List ℕ) (token : Token) (w : List ℕ) (e : own text token ≡ w) where
   -- the token stands in the text
@@ -150,7 +150,7 @@ pub named_reads : {n : NameKind} {text buffer b : List ℕ} {token : Token} {x :
     → Whose n a → Read Reader.name text token buffer (reading_of a) b → ReadsName text token buffer a b
 named_reads s Whose.no_name r = ReadsName.no_name r
 named_reads s Whose.in_text r = ReadsName.in_text s r
-named_reads s Whose.in_Buffer r = ReadsName.in_Buffer s r
+named_reads s Whose.in_buffer r = ReadsName.in_buffer s r
 
 name_given : {n : NameKind} {w : List ℕ} {v : Value} → Name n w v → v ≡ absent → ⊥
 name_given (Name.word h) e = differ (cc)
@@ -163,7 +163,7 @@ name_given (Name.quoted_wrong s h) e = differ (cc)
 pub name_found : {n : NameKind} {k : TokenKind} {w : List ℕ} {v : Value} (offset : ℕ) → Reads Reader.name k w v
     → (a : NameReading) × (reading_of a ≡ found offset v) × Whose n a
 name_found {n} {v = part i u} offset x = (name.Text n (offset + i) (length u), refl, Whose.in_text)
-name_found {n} {v = copy u} offset x = (name.Buffer n 0 (length u), refl, Whose.in_Buffer)
+name_found {n} {v = copy u} offset x = (name.Buffer n 0 (length u), refl, Whose.in_buffer)
 name_found {v = absent} offset x = absurd (given x refl)
   where
     given : {k : TokenKind} {w : List ℕ} {v : Value} → Reads Reader.name k w v → v ≡ absent → ⊥

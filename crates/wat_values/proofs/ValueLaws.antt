@@ -97,9 +97,13 @@ sigil_tells Sigil.annotation Sigil.annotation e = refl
 
 pub misnamed_refused : {r : Reader} {k : TokenKind} {w : List ℕ} {v : Value} {e : LexError} → Reads r k w v → Misnamed r w e
     → (u : List ℕ) × (v ≡ refused u e)
-misnamed_refused (Reads.a_name {x = x} {w = w} s n) (Misnamed.empty t m) =
-    ([], name_one n (name_empty x w m) ∙ ap (λ (o : NameKind). refused [] (empty_name o)) (sigil_tells s t refl))
-misnamed_refused (Reads.a_name {x = x} {w = w} s n) (Misnamed.wrong m b) = let z = name_bad x w m b in (z.0, name_one n z.1)
+misnamed_refused r d = go d r
+  where
+    go : {r : Reader} {k : TokenKind} {w : List ℕ} {v : Value} {e : LexError} → Misnamed r w e → Reads r k w v
+        → (u : List ℕ) × (v ≡ refused u e)
+    go (Misnamed.empty t m) (Reads.a_name {x = x} {w = w} s n) =
+        ([], name_one n (name_empty x w m) ∙ ap (λ (o : NameKind). refused [] (empty_name o)) (sigil_tells s t refl))
+    go (Misnamed.wrong m b) (Reads.a_name {x = x} {w = w} s n) = let z = name_bad x w m b in (z.0, name_one n z.1)
 
 -- ---- a part that is not copied stands in the token
 

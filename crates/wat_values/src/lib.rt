@@ -1,11 +1,13 @@
 // What the readers answer. specs/ says which answer is right: what each reader leaves of a token's bytes.
+#![tactic(auto)]
+
 use wat::{Refusal, Sign};
 
 // The place of a refusal that has none: no such token (30), another kind (31), too short a buffer (32).
 pub const NO_PLACE: usize = 0;
 
 // What a reader's first call answers: a refusal and its place, nothing, or where the value's bytes are.
-#[derive(Drop)]
+#[derive(Clone, Copy)]
 pub enum Reading {
     Refused { refusal: Refusal, place: usize },
     Absent,
@@ -14,14 +16,14 @@ pub enum Reading {
 }
 
 // The two tokens that have a name: an id, after its `$`, and an annotation, after its `@`.
-#[derive(Drop)]
+#[derive(Clone, Copy)]
 pub enum NameKind {
     Id,
     Annotation,
 }
 
 // What the reader of names answers: a refusal and its place, or where the name's bytes are, and whose name it is.
-#[derive(Drop)]
+#[derive(Clone, Copy)]
 pub enum NameReading {
     Refused {
         refusal: Refusal,
@@ -40,7 +42,7 @@ pub enum NameReading {
 }
 
 // A part of a float: the digits before its point, after it, and of its exponent; those of a NaN after `nan:0x`.
-#[derive(Drop)]
+#[derive(Clone, Copy)]
 pub enum FloatPart {
     Integral,
     Fraction,
@@ -48,13 +50,13 @@ pub enum FloatPart {
     Payload,
 }
 
-#[derive(Drop)]
+#[derive(Clone, Copy)]
 pub enum IntegerSign {
     Refused { refusal: Refusal, place: usize },
     Sign(Sign),
 }
 
-#[derive(Drop)]
+#[derive(Clone, Copy)]
 pub enum FloatSign {
     Refused { refusal: Refusal, place: usize },
     Absent,
@@ -62,7 +64,7 @@ pub enum FloatSign {
 }
 
 // The value of an integer: a refusal and its place; out of range, 40; or its word of so many bits.
-#[derive(Drop)]
+#[derive(Clone, Copy)]
 pub enum IntegerValue {
     Refused { refusal: Refusal, place: usize },
     OutOfRange,
