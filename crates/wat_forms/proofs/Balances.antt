@@ -6,7 +6,7 @@ use native.Mathlib.Omega.{arith}
 use Rattle.wat.specs.Division.{Piece}
 use Rattle.wat.proofs.Basics.{differ}
 use Rattle.wat_forms.specs.Forms.{Opens, Closes, opens, closes, Forms, Form}
-use Rattle.wat_forms.specs.Balance.{Side, opening, closing, up, down, count, openings, closings, Balanced}
+use Rattle.wat_forms.specs.Balance.{Side, up, down, count, openings, closings, Balanced}
 use Rattle.wat_forms.proofs.Sides.{opens_side, closes_side, other_side}
 
 -- ---- lists

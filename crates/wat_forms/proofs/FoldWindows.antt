@@ -52,16 +52,25 @@ module _ (front rest : List ℕ) (whole : Text (front ++ rest)) where
       let same = drop-append-le pos front rest s.within in
       Folds.elsewhere (window_stands front rest whole s)
       (λ m l. n 1 (open_front (drop pos front) rest s.between (window_left front rest whole s) long (rw same at l)))
-  window_folds DecidedFold.past (Folds.walks s w (Halts.past f)) =
-      Folds.walks (window_stands front rest whole s) (window_past w f) (Halts.past f)
-  window_folds (DecidedFold.fault n c h) (Folds.walks {at = at} s w (Halts.fault b l)) =
-      let near = fault_near l c in
-      Folds.walks (window_stands front rest whole s) (window_walked front rest whole w (omega arith))
-      (Halts.fault b (lexed_at front rest whole w.stands l (omega (arith, length-drop at front), n)))
-  window_folds (DecidedFold.too_deep h) (Folds.walks {at = at} s w (Halts.too_deep b l)) =
-      let one = opens_by_one l in
-      Folds.walks (window_stands front rest whole s) (window_walked front rest whole w (omega arith))
-      (Halts.too_deep b (lexed_at front rest whole w.stands l (omega (arith, length-drop at front))))
+  window_folds (DecidedFold.no_form h) (Folds.rejected t) = elim t [ ]
+  window_folds (DecidedFold.fault n c h) (Folds.rejected t) = elim t [ ]
+  window_folds {σ} {pos} d (Folds.walks s w h) = halted d w h
+    where
+      there : Stands (front ++ rest) pos
+      there = window_stands front rest whole s
+
+      halted : {ts : List Piece} {at : ℕ} {a : Folded} → DecidedFold front pos a → Walked σ front pos at ts → Halts σ front ts at a
+          → Folds σ (front ++ rest) pos a
+      halted (DecidedFold.no_form h) w k = elim k [ ]
+      halted DecidedFold.past w (Halts.past f) = Folds.walks there (window_past w f) (Halts.past f)
+      halted {at = at} (DecidedFold.fault n c h) w (Halts.fault b l) =
+          let near = fault_near l c in
+          Folds.walks there (window_walked front rest whole w (omega arith))
+          (Halts.fault b (lexed_at front rest whole w.stands l (omega (arith, length-drop at front), n)))
+      halted {at = at} (DecidedFold.too_deep h) w (Halts.too_deep b l) =
+          let one = opens_by_one l in
+          Folds.walks there (window_walked front rest whole w (omega arith))
+          (Halts.too_deep b (lexed_at front rest whole w.stands l (omega (arith, length-drop at front))))
 
 -- ---- a tail of a text
 
@@ -107,5 +116,8 @@ module _ (before piece rest : List ℕ) (begins : Stands (before ++ (piece ++ re
       stands : {a : Folded} → DecidedFold piece pos a → Folds σ piece pos a → Stands piece pos
       stands DecidedFold.past (Folds.walks s w h) = s
       stands (DecidedFold.no_form h) (Folds.elsewhere s n) = s
+      stands (DecidedFold.no_form h) (Folds.rejected t) = elim t [ ]
+      stands (DecidedFold.no_form h) (Folds.walks s w k) = elim k [ ]
+      stands (DecidedFold.fault n c h) (Folds.rejected t) = elim t [ ]
       stands (DecidedFold.fault n c h) (Folds.walks s w k) = s
       stands (DecidedFold.too_deep h) (Folds.walks s w k) = s

@@ -107,10 +107,13 @@ pub folds_listed : {σ : Settings} {text : List ℕ} {pos : ℕ} {ts us : List P
     → Walked σ text 0 pos us → Folds σ text pos a → Structural a
 folds_listed d u (Folds.rejected t) = absurd (stands_or_rejected u.stands t)
 folds_listed d u (Folds.elsewhere s n) = Structural.no_form
-folds_listed d u (Folds.walks s w (Halts.past f)) = Structural.past
-folds_listed {σ} {text} d u (Folds.walks s w (Halts.fault b l)) =
-    let e = (ended_one (walked_then σ text u w).divided (ended_fault l) d ended_nil).1 in
-    let z = lexed_one l (Lexed.end e) in
-    differ (cc)
-folds_listed d u (Folds.walks s w (Halts.too_deep b l)) = Structural.too_deep
-folds_listed d u (Folds.walks s w (Halts.left_open b e)) = Structural.unclosed
+folds_listed {σ} {text} {pos} d u (Folds.walks s w h) = halted w h
+  where
+    halted : {ts : List Piece} {at : ℕ} {a : Folded} → Walked σ text pos at ts → Halts σ text ts at a → Structural a
+    halted w (Halts.past f) = Structural.past
+    halted w (Halts.fault b l) =
+        let e = (ended_one (walked_then σ text u w).divided (ended_fault l) d ended_nil).1 in
+        let z = lexed_one l (Lexed.end e) in
+        differ (cc)
+    halted w (Halts.too_deep b l) = Structural.too_deep
+    halted w (Halts.left_open b e) = Structural.unclosed

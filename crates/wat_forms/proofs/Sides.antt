@@ -1,6 +1,6 @@
 -- Tokens passed one by one, with a count of the forms that are open and of the levels that are left: what that says of
 -- forms, of forms that are begun, and that forms are balanced. Assumes nothing.
-use Prim.Native.Nat.{ℕ, zero, suc, ◌+◌}
+use Prim.Native.Nat.{ℕ, zero, suc}
 use mathlib.Core.Path.{◌≡◌, refl, ap, ◌∙◌}
 use mathlib.Core.List.{List, [], ◌∷◌, ◌++◌, append_assoc}
 use Rattle.wat.specs.declared.TokenKind.{TokenKind}
