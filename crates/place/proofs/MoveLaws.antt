@@ -54,14 +54,14 @@ column_on : {c n : ℕ} (x : ℕ) {w : List ℕ} → Column (next_column c x) w 
 unfolding next_column
 column_on {c} x k = go (newline x) refl k
   where
-    go : {n : ℕ} {w : List ℕ} (b : Bool) → newline x ≡ b → Column (elim b [ true ↦ 1 | false ↦ c + 1 ]) w n
+    go : (b : Bool) {w : List ℕ} {n : ℕ} → newline x ≡ b → Column (elim b [ true ↦ 1 | false ↦ c + 1 ]) w n
         → Column c (x ∷ w) n
     go true e (Column.goes_on r) = Column.restarts [] x e r
     go false e (Column.goes_on {w = w} r) = let z : c + 1 + length w ≡ c + suc (length w) = omega arith in
         rw z (Column.goes_on (Each.next e r))
     go b e (Column.restarts v y n r) = Column.restarts (x ∷ v) y n r
 
-column_off : {c n : ℕ} (x : ℕ) {s w : List ℕ} → s ≡ x ∷ w → Column c s n → Column (next_column c x) w n
+column_off : {c : ℕ} (x : ℕ) {s w : List ℕ} {n : ℕ} → s ≡ x ∷ w → Column c s n → Column (next_column c x) w n
 unfolding next_column
 column_off x q (Column.goes_on Each.none) = differ (cc)
 column_off {c} x {w = w} q (Column.goes_on (Each.next {x = y} {t = t} f r)) =
@@ -74,7 +74,7 @@ column_off x {w = w} q (Column.restarts [] y {w = t} n r) = let z : w ≡ t = cc
 column_off x {w = w} q (Column.restarts (b ∷ v) y {w = t} n r) = let z : w ≡ v ++ (y ∷ t) = cc in rw z (Column.restarts v y n r)
 
 -- over no byte the column stays
-pub stays : {c n : ℕ} {s : List ℕ} → Column c s n → s ≡ [] → n ≡ c
+pub stays : {c : ℕ} {s : List ℕ} {n : ℕ} → Column c s n → s ≡ [] → n ≡ c
 stays (Column.goes_on Each.none) e = omega arith
 stays (Column.goes_on (Each.next f r)) e = differ (cc)
 stays (Column.restarts [] x n r) e = differ (cc)

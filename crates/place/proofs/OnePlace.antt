@@ -25,7 +25,7 @@ last_line [] (y ∷ v') x x' {w' = w'} m n a b e = absurd (unbroken v' x' w' n a
 last_line (y ∷ v) [] x x' {w = w} m n a b e = absurd (unbroken v x w m b (cc))
 last_line (y ∷ v) (z ∷ v') x x' m n a b e = last_line v v' x x' m n a b (cc)
 
-columns_one : {c n m : ℕ} {s t : List ℕ} → Column c s n → Column c t m → s ≡ t → n ≡ m
+columns_one : {c : ℕ} {s t : List ℕ} {n m : ℕ} → Column c s n → Column c t m → s ≡ t → n ≡ m
 columns_one (Column.goes_on a) (Column.goes_on b) e = cc
 columns_one (Column.goes_on a) (Column.restarts v x {w = w} n b) e = absurd (unbroken v x w n a e)
 columns_one (Column.restarts v x {w = w} m a) (Column.goes_on b) e = absurd (unbroken v x w m b (sym e))

@@ -1,10 +1,12 @@
 // The place counter by value: lines and columns as specs/Places defines them.
+#![tactic(auto)]
+
 ghost use Rattle.std.specs.Prelude.{◌≡◌};
 ghost use Rattle.place.specs.Places.{Moves};
 ghost use Rattle.place.specs.PlaceModel.{step, answer};
 
 // The place counter: line and column, each from 1, and whether the last byte passed is a CR.
-#[derive(Drop)]
+#[derive(Clone, Copy)]
 pub struct Place {
     pub line: u32,
     pub column: u32,
@@ -17,7 +19,7 @@ impl Place {
 }
 
 // The counter after a move; unchanged where the move is refused by 35.
-#[derive(Drop)]
+#[derive(Clone, Copy)]
 pub struct Moved {
     pub ok: bool,
     pub place: Place,
