@@ -1,3 +1,2 @@
-mod WordLaws
 pub mod RefusalLaws
 pub mod FoldTell

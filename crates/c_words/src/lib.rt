@@ -1,4 +1,6 @@
 // The lexer's answers as words: what crosses the border to C. include/thallusweb.h explains each word.
+#![tactic(auto)]
+
 ghost use Rattle.std.specs.Prelude.{◌≡◌};
 ghost use Rattle.c_words.specs.Words.{refused_words, checked_words, found_words};
 ghost use Rattle.c_words.specs.Words.{parsed_words, stop_words, listed_words, folded_words, words_version};
