@@ -1,20 +1,21 @@
 -- Laws for the loops that measure and write what a whole string stands for. Assumes nothing.
-use Prim.Native.Nat.{ℕ, ◌+◌, ◌-◌, ◌≤◌}
+use Prim.Native.Nat.{ℕ, ◌+◌, ◌-◌, ◌≤◌, ◌<◌}
 use mathlib.Core.Path.{◌≡◌, refl, sym, ap, ◌∙◌}
-use mathlib.Core.List.{List, [], ◌++◌}
+use mathlib.Core.List.{List, [], ◌∷◌, ◌++◌}
 use native.Mathlib.Omega.{arith}
 use native.Mathlib.Nat.{zero-add}
-use lib.ListN.{length, take, drop, length-append, length-drop, take-append-drop}
+use lib.ListN.{length, take, drop, set, length-append, length-drop, take-append-drop}
 use lib.Seq.{length-take-le, drop-drop}
 use Rattle.wat.specs.declared.Fault.{Fault}
 use Rattle.wat.specs.Settings.{lenient}
 use Rattle.wat.specs.StringModel.{quote, read}
 use Rattle.buffers.specs.Writing.{Put}
-use Rattle.buffers.proofs.PutLaws.{put_front, put_back, put_length}
-use Rattle.lex_escapes.specs.Elements.{Refuses}
+use Rattle.buffers.proofs.PutLaws.{put_one, put_front, put_back, put_length}
+use Rattle.lex_escapes.specs.Elements.{Element, Refuses}
 use Rattle.lex_strings.specs.Raw.{Raws}
 use Rattle.lex_strings.specs.Parsing.{string, Closes, value_of, Copied}
-use Rattle.lex_strings.proofs.PassLaws.{Passed, Onward, passed_none, passed_quote, passed_refused, passed_value}
+use Rattle.lex_strings.proofs.PassLaws.{Passed, Onward, raws_onward, element_onward}
+use Rattle.lex_strings.proofs.PassLaws.{passed_none, passed_quote, passed_refused, passed_value}
 
 -- raw characters stand for as many bytes as they are
 pub raws_long : {s : List ℕ} {i j : ℕ} → Raws s i j → j - i ≡ length (take (j - i) (drop i s))
@@ -42,6 +43,15 @@ module _ {s : List ℕ} {at i n : ℕ} (x : Measured s at i n) where
     passed = o.on at x.value x.passed;
     long = omega (arith, length-append x.value v, x.long);
   }
+
+  -- past raw characters, and past an element
+  pub measured_raws : {j : ℕ} → Raws s i j → Measured s at j (n + (j - i))
+  measured_raws r = measured_on (raws_onward lenient s r) (raws_long r)
+
+  pub measured_element :
+      {k m : ℕ} {v : List ℕ} → Element (drop i s) (read lenient (drop i s)) k v → m ≡ length v
+      → Measured s at (i + k) (n + m)
+  measured_element r q = measured_on (element_onward lenient s r) q
 
   pub measured_below : n ≤ length s
   measured_below = omega (arith, x.long, x.passed.short, x.passed.within)
@@ -84,6 +94,30 @@ module _ {s : List ℕ} {at i n : ℕ} {d e : List ℕ} (x : Written s at i n d 
             (put_back e f n v p ∙ sym (drop-drop (length v) n e) ∙ ap (drop (length v)) x.stays ∙ drop-drop (length v) n d);
       }
 
+  -- past raw characters, and past an element
+  pub written_raws : {j : ℕ} {f : List ℕ} → Raws s i j → Put e f n (take (j - i) (drop i s)) → Written s at j (n + (j - i)) d f
+  written_raws r p = written_on (raws_onward lenient s r) (raws_long r) p
+
+  pub written_element :
+      {k m : ℕ} {f v : List ℕ} → Element (drop i s) (read lenient (drop i s)) k v → m ≡ length v → Put e f n v
+      → Written s at (i + k) (n + m) d f
+  written_element r q p = written_on (element_onward lenient s r) q p
+
+  module _ (whole : Closes (string lenient (drop at s))) (room : length (value_of (string lenient (drop at s))) ≤ length d) where
+    pub room_raws : {j : ℕ} → Raws s i j → n + (j - i) ≤ length e
+    room_raws r = omega (arith, room_on (raws_onward lenient s r) whole room, raws_long r)
+
+    pub room_element : {k : ℕ} {v : List ℕ} → Element (drop i s) (read lenient (drop i s)) k v → n + length v ≤ length e
+    room_element r = room_on (element_onward lenient s r) whole room
+
+    -- for one byte
+    pub room_byte : {k b : ℕ} → Element (drop i s) (read lenient (drop i s)) k (b ∷ []) → n < length e
+    room_byte r = omega (arith, room_element r)
+
+    pub written_byte :
+        {k b : ℕ} → Element (drop i s) (read lenient (drop i s)) k (b ∷ []) → Written s at (i + k) (n + 1) d (set e n b)
+    written_byte {k} {b} r = written_element r refl (put_one e n b (room_byte r))
+
   pub written_quote : read lenient (drop i s) ≡ quote → Copied d e (value_of (string lenient (drop at s))) n
   written_quote q =
       let l = length-take-le n e x.room in
@@ -91,3 +125,8 @@ module _ {s : List ℕ} {at i n : ℕ} {d e : List ℕ} (x : Written s at i n d 
       rw (zero-add (length (take n e)), l, ← x.stays) (take-append-drop n e) in
       rw (passed_quote lenient s at i (take n e) x.passed q)
       (record { put = record { fits = omega (arith, x.same, x.room); is = sym c }; long = sym l })
+
+-- what the two loops keep, and their answers
+pub ruleset measures = (measured_none, measured_raws, measured_element, measured_below)
+
+pub ruleset writes = (written_none, written_raws, written_element)

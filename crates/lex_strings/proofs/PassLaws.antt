@@ -155,6 +155,13 @@ module _ {σ : Settings} {s : List ℕ} {at i : ℕ} (x : Reached σ s at i) whe
   pub reached_on : {j : ℕ} {v : List ℕ} → Onward σ s i j v → Reached σ s at j
   reached_on {j} {v} o = record { value = x.value ++ v; passed = o.on at x.value x.passed }
 
+  -- past raw characters, and past an element
+  pub reached_raws : {j : ℕ} → Raws s i j → Reached σ s at j
+  reached_raws r = reached_on (raws_onward σ s r)
+
+  pub reached_element : {n : ℕ} {v : List ℕ} → Element (drop i s) (read σ (drop i s)) n v → Reached σ s at (i + n)
+  reached_element r = reached_on (element_onward σ s r)
+
   pub reached_ends : (read σ (drop i s) ≡ quote) × (1 ≤ length (drop i s)) → Ends σ s at (i + 1)
   reached_ends e = passed_ends σ s at i x.value x.passed e
 

@@ -1,5 +1,5 @@
 -- Laws of the fast paths: raw characters, and two digits. Assumes nothing.
-use Prim.Native.Nat.{ℕ, suc, ◌+◌, ◌-◌, ◌*◌, ◌≤◌, ◌<◌}
+use Prim.Native.Nat.{ℕ, suc, ◌+◌, ◌-◌, ◌*◌, ◌/◌, ◌%◌, ◌≤◌, ◌<◌}
 use mathlib.Core.Path.{◌≡◌, refl, sym, ap, ◌∙◌}
 use mathlib.Core.List.{List, [], ◌∷◌, ◌++◌, append_assoc, append-nil}
 use mathlib.Core.Option.{some}
@@ -14,8 +14,10 @@ use Rattle.wat.specs.Bytes.{byte, between, has}
 use Rattle.wat.specs.declared.Settings.{Settings}
 use Rattle.wat.specs.Utf8.{Char, scalar}
 use Rattle.wat.specs.Chars.{control}
+use Rattle.wat.specs.Numbers.{digit}
+use Rattle.lex_classes.proofs.AskLaws.{hex_is}
 use Rattle.wat.specs.Strings.{Elem, Elems}
-use Rattle.wat.specs.StringModel.{hex_of, read}
+use Rattle.wat.specs.StringModel.{hex_of, read, element}
 use Rattle.wat.proofs.Scalars.{ascii}
 use Rattle.wat.proofs.Basics.{between_true, differ}
 use Rattle.wat.proofs.HexDigits.{of_hex}
@@ -28,7 +30,7 @@ use Rattle.lex_classes.specs.Ask.{raw, confusing_bytes}
 use Rattle.lex_classes.proofs.ConfusingLaws.{confusing_not, unconfusing, unled}
 use Rattle.lex_escapes.specs.Elements.{Element}
 use Rattle.lex_strings.specs.Raw.{Raw, Raws}
-use Rattle.lex_escapes.proofs.ElementLaws.{an_element}
+use Rattle.lex_escapes.proofs.ElementLaws.{an_element, left_long}
 
 pub both : (a b : Bool) → a && b ≡ true → (a ≡ true) × (b ≡ true)
 both true b e = (refl, e)
@@ -63,6 +65,17 @@ raw_wide s i n c h e ch w f =
 -- what `continues` says
 pub continuing : (r : Bool) (b : ℕ) → r ≡ between 0x80 0xBF b → r ≡ true → Continues b
 continuing r b e t = let w = between_true 0x80 0xBF b (sym e ∙ t) in (w.0, omega arith)
+
+module _ {p q : Bool} {b c : ℕ} (e : p ≡ between 0x80 0xBF b) (f : q ≡ between 0x80 0xBF c) where
+  pub both_continue : p && q ≡ true → Continues b × Continues c
+  both_continue h = let w = both p q h in (continuing p b e w.0, continuing q c f w.1)
+
+  pub all_continue : {r : Bool} {d : ℕ} → r ≡ between 0x80 0xBF d → p && (q && r) ≡ true
+      → Continues b × Continues c × Continues d
+  all_continue {r} {d} g h =
+      let w = both p (q && r) h in
+      let v = both q r w.1 in
+      (continuing p b e w.0, continuing q c f v.0, continuing r d g v.1)
 
 -- characters of two, three and four bytes
 
@@ -166,6 +179,20 @@ pair_is s at r h l k e p q o σ =
     rw o (an_element s at (ap (read σ) d ∙ elem_read t (Elem.pair (of_hex a h p) (of_hex b l q))) (omega arith) (omega arith)
     (omega arith))
 
+pub pair_reads :
+    (s : List ℕ) (at : ℕ) (σ : Settings) → at + 3 ≤ length s → get_or s at 0 ≡ byte "\\"
+    → digit true (get_or s (at + 1) 0) && digit true (get_or s (at + 2) 0) ≡ true
+    → read σ (drop at s)
+    ≡ element 3 (((get_or s (at + 1) 0 % 16 + 9 * (get_or s (at + 1) 0 / 64)) * 16
+    + (get_or s (at + 2) 0 % 16 + 9 * (get_or s (at + 2) 0 / 64))) ∷ [])
+pair_reads s at σ k e d =
+    let w = both (digit true (get_or s (at + 1) 0)) _ d in
+    let h = hex_is (get_or s (at + 1) 0) w.0 in
+    let l = hex_is (get_or s (at + 2) 0) w.1 in
+    (pair_is s at _ _ _ k e h.0 l.0 refl σ).is
+
+pub ruleset pairs = (pair_reads, left_long)
+
 -- ---- a byte among those from i to `to`
 
 module _ (x : ℕ) (s : List ℕ) (i to : ℕ) where
@@ -181,3 +208,5 @@ module _ (x : ℕ) (s : List ℕ) (i to : ℕ) where
     pub has_next : (get_or s i 0 ≡ x → ⊥) → has x (slice i to s) ≡ has x (slice (i + 1) to s)
     unfolding has
     has_next f = rw (slice-cons i to s 0 h k, ne_eqb (get_or s i 0) x f, add-one i)
+
+pub ruleset escapes_sought = (has_none, has_here, has_next)

@@ -1,6 +1,8 @@
 // Whole strings as the Rust's `parse_str` reads them: where a string ends or how it fails, and the bytes that a whole
 // one stands for. A string is given by the place where its opening quote ends. Places count from the text's start.
 
+#![tactic(auto)]
+
 ghost use Rattle.std.specs.Prelude.{◌≡◌, ◌≤◌, ◌<◌, length, get_or, drop};
 ghost use Rattle.std.proofs.Math.Seq.{slice};
 ghost use Rattle.wat.specs.Bytes.{byte, between, has};
@@ -13,13 +15,14 @@ use lex_escapes::Read;
 use wat::{Fault, Settings};
 
 // What follows an opening quote: a string that ends past its closing quote, or a fault.
-#[derive(Drop)]
+#[derive(Clone, Copy)]
 pub enum StringEnd {
     Closed(usize),
     Failed(Fault),
 }
 
 // The string whose opening quote ends at `at`.
+#[tactic(auto, using(crate::proofs::PassLaws::reached_none))]
 pub fn parse_str(s: &[u8], at: usize, settings: Settings, t: &[u8; 256]) -> StringEnd
     requires at_in_bounds { at ≤ length s.now }
     requires classes { Classes t.now }
@@ -55,6 +58,7 @@ pub fn parse_str(s: &[u8], at: usize, settings: Settings, t: &[u8; 256]) -> Stri
 }
 
 // Whether the bytes from one place to another have a `\`. A string with none stands for the bytes between its quotes.
+#[tactic(auto, using(crate::proofs::RawLaws::escapes_sought))]
 pub fn has_escape(s: &[u8], from: usize, to: usize) -> bool
     requires { (from ≤ to) × (to ≤ length s.now) }
     ensures { result ≡ has (byte "\\") (slice from to s.now) }
@@ -70,6 +74,7 @@ pub fn has_escape(s: &[u8], from: usize, to: usize) -> bool
 }
 
 // How many bytes a whole string stands for.
+#[tactic(auto, using(crate::proofs::CopyLaws::measures))]
 pub fn decoded_len(s: &[u8], at: usize, t: &[u8; 256]) -> usize
     requires at_in_bounds { (at ≤ length s.now) × Closes (string lenient (drop at s.now)) }
     requires classes { Classes t.now }
@@ -105,6 +110,7 @@ pub fn decoded_len(s: &[u8], at: usize, t: &[u8; 256]) -> usize
 }
 
 // Writes the bytes that a whole string stands for to the front of a buffer that has the room; returns how many.
+#[tactic(auto, using(crate::proofs::CopyLaws::writes))]
 pub fn decode_into(s: &[u8], at: usize, dst: &mut [u8], t: &[u8; 256]) -> usize
     requires at_in_bounds { (at ≤ length s.now) × Closes (string lenient (drop at s.now)) }
     requires s_in_bounds { length (value_of (string lenient (drop at s.now))) ≤ length dst.old }
@@ -277,6 +283,7 @@ fn four_raw(s: &[u8], at: usize) -> usize
 }
 
 // Whether a byte may be one of a character after its first.
+#[tactic(auto, unfolding(wat::specs::Bytes::between))]
 fn continues(b: u8) -> bool
     ensures { result ≡ between 0x80 0xBF b }
 {
@@ -285,6 +292,7 @@ fn continues(b: u8) -> bool
 
 // The byte of the `\hh` at a place, or 256 where none stands. In data any digit follows any other: so both are tested
 // at once, and the value is had by arithmetic, with no branch to be mispredicted.
+#[tactic(auto, using(crate::proofs::RawLaws::pairs))]
 fn pair(s: &[u8], at: usize, t: &[u8; 256]) -> u32
     requires at_in_bounds { at ≤ length s.now }
     requires classes { Classes t.now }
