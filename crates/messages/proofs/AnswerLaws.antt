@@ -11,7 +11,7 @@ use borrow.Author.Tests.{lt-ltb, le-ltb, ne_eqb}
 use Rattle.wat.specs.declared.Refusal.TheVariants.{BufferTooShort, NoMessage}
 use Rattle.messages.specs.declared.Told.TheVariants.{Refused, Written}
 use Rattle.wat.specs.{Bytes.bytes, Bytes.between, Chars.is_scalar, Chars.confusing}
-use Rattle.wat.proofs.Basics.{between_in, between_true}
+use Rattle.wat.proofs.Basics.{between_in, between_under, between_over, between_true}
 use Rattle.buffers.specs.Writing.{Added}
 use Rattle.buffers.proofs.PutLaws.{put_none}
 use Rattle.buffers.proofs.AddedLaws.{added_front, added_same}
@@ -103,3 +103,13 @@ delivered {buffer = buffer} {left = left} {m = m} {k = k} w h p =
     let l : k ≡ length m = omega (arith, w.ends) in
     let z : left ≡ m ++ drop (length m) buffer = q.put.is ∙ ap (λ i. m ++ drop i buffer) (zero-add (length m)) in
     rw (le-ltb (length buffer) (length m) (omega arith), z, l, fitted)
+
+-- for the tactics
+
+pub ruleset asked =
+    (unknown, tellable_character, tellable_expected, tellable_confusing, tellable_other, between_in, between_under, between_over)
+
+pub ruleset rests =
+    (rest_character, rest_confusing, rest_expected, rest_hex, no_rest, nothing_written, added_same, between_under, between_over)
+
+pub ruleset answers = (tellable_known, untold, message_length)

@@ -6,19 +6,18 @@ use mathlib.Core.List.{List, [], ◌∷◌, ◌++◌, Memᴰ}
 use mathlib.Core.Option.{Option, none, some}
 use native.Mathlib.Omega.{arith}
 use lib.Dec.{eqb}
-use lib.ListN.{length, set, length-append}
+use lib.ListN.{length, length-append}
 use borrow.Author.Tests.{eqb-true, ne_eqb}
 use Rattle.wat.specs.{Bytes.bytes, Bytes.byte, Bytes.between, Chars.is_scalar}
 use Rattle.wat.specs.Utf8Model.{pick}
 use Rattle.wat.specs.StringModel.{letter_of}
 use Rattle.messages.specs.Messages.{named, Shown}
-use Rattle.wat.proofs.Basics.{differ, between_true, AllPairs, pairs_listed}
+use Rattle.wat.proofs.Basics.{differ, between_in, between_under, between_over, between_true, AllPairs, pairs_listed}
 use Rattle.wat.proofs.ScalarValues.{scalar_low}
 use Rattle.messages.proofs.OneMessage.{shown_one}
 use Rattle.messages.specs.Spelled.{hex, letter_byte, shown}
-use Rattle.buffers.specs.Writing.{Added}
 use Rattle.buffers.proofs.AddedLaws.{added_length, added_one, added_then}
-use Rattle.messages.proofs.HexLaws.{hexed, hex_fits}
+use Rattle.messages.proofs.HexLaws.{hexed, hex_fits, hex_8}
 
 -- ---- letters
 
@@ -60,10 +59,6 @@ unlettered {b} c e z = go (letter_of named c) refl e
     go none q e = q
     go (some l) q e = let k = (is_named (letter_listed named c l q)).2 in absurd (omega arith)
 
-lettered : (o : Option ℕ) {b : ℕ} → b ≡ letter_byte o → (b ≡ 0 → ⊥) → o ≡ some b
-lettered none e n = absurd (n e)
-lettered (some l) e n = cc
-
 -- ---- characters
 
 shown_named : (c l : ℕ) → letter_of named c ≡ some l → shown c ≡ byte "\\" ∷ l ∷ []
@@ -78,16 +73,6 @@ pub shown_hex : (c : ℕ) → letter_of named c ≡ none → between 0x20 0x7E c
     → shown c ≡ bytes "\\u{" ++ (hex c ++ bytes "}")
 unfolding shown
 shown_hex c e h = rw (e, h, shown)
-
--- an escape of two bytes, written
-pub put_letter :
-    (old : List ℕ) (at c b : ℕ) → b ≡ letter_byte (letter_of named c) → (b ≡ 0 → ⊥) → at + 2 ≤ length old
-    → Added old (set (set old at (byte "\\")) (at + 1) b) at (shown c) (at + 2)
-put_letter old at c b e n h =
-    let p = added_one old at (byte "\\") (omega arith) in
-    let q = added_one (set old at (byte "\\")) (at + 1) b (omega (arith, added_length p)) in
-    let z : at + 1 + 1 ≡ at + 2 = omega arith in
-    rw (shown_named c b (lettered (letter_of named c) e n)) (rw z at (added_then p q))
 
 -- the ways in which a character is shown
 data Ways (c : ℕ) : List ℕ → Type 0 where
@@ -134,3 +119,12 @@ shown_fits c k h = go (ways c)
     go (Ways.letter m) = omega arith
     go (Ways.itself r n) = omega arith
     go (Ways.number r n) = omega (arith, length-append (hex c) (bytes "}"), hex_fits c k h)
+
+pub shown_12 : (c : ℕ) → c < 2 ^ 32 → length (shown c) ≤ 12
+shown_12 c h = shown_fits c 7 (omega arith)
+
+-- for the tactics
+
+pub ruleset characters = (added_length, added_one, hex_8, unlettered, between_in)
+
+pub ruleset texts = (added_length, shown_12)

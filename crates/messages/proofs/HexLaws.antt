@@ -59,3 +59,12 @@ put_digit old at n b h e l = rw (hex_small n h, ← e) (added_one old at b l)
 pub put_digits : {old new : List ℕ} {at end : ℕ} (n b : ℕ) → 16 ≤ n → b ≡ figure (n % 16) → end < length new
     → Added old new at (hex (n / 16)) end → Added old (set new end b) at (hex n) (end + 1)
 put_digits n b h e l p = rw (hex_more n h, ← e) (added_byte b p (omega (arith, added_length p)))
+
+-- of 32 bits
+pub hex_7 : (n : ℕ) → n < 2 ^ 32 → length (hex (n / 16)) ≤ 7
+hex_7 n h = hex_fits (n / 16) 6 (omega arith)
+
+pub hex_8 : (n : ℕ) → n < 2 ^ 32 → length (hex n) ≤ 8
+hex_8 n h = hex_fits n 7 (omega arith)
+
+pub ruleset digits = (added_length, hex_7)

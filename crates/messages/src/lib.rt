@@ -1,4 +1,6 @@
 // The message of an error: the Rust's `Display` of `LexError`, into a lent buffer, as specs/Messages defines it.
+#![tactic(auto)]
+
 ghost use Rattle.std.specs.Prelude.{◌+◌, ◌^◌, ◌≤◌, ◌<◌, ◌≡◌, ◌++◌, length};
 ghost use Rattle.wat.specs.Bytes.{bytes};
 ghost use Rattle.wat.specs.StringModel.{letter_of};
@@ -12,7 +14,7 @@ ghost use Rattle.messages.specs.MessageModel.{rest as rest_of, message as messag
 use wat::Refusal;
 
 // A message of so many bytes at the front of the buffer, or a refusal.
-#[derive(Drop)]
+#[derive(Clone, Copy)]
 pub enum Told {
     Refused(Refusal),
     Written(usize),
@@ -37,6 +39,7 @@ pub fn message_of(number: u64, first: u64, second: u64, buffer: &mut [u8]) -> To
 }
 
 // Whether an error carries a value that is over 32 bits. The lengths of 22 may be.
+#[tactic(auto, unfolding(wat::specs::Bytes::between, crate::specs::MessageModel::wide))]
 fn is_wide(number: u64, first: u64, second: u64) -> bool
     ensures { result ≡ wide number first second }
 {
@@ -61,6 +64,7 @@ const LONGEST_LEAD: usize = 43;
 const LONGEST_REST: usize = 38;
 
 // What both calls return. The message is made in a buffer that has room for any lead with any rest, and copied.
+#[tactic(auto, using(crate::proofs::AnswerLaws::answers))]
 fn tell(number: u64, first: u32, second: u32, buffer: &mut [u8]) -> Told
     ensures { (result, buffer.new) ≡ answer number first second buffer.old }
 {
@@ -86,6 +90,7 @@ fn fmt(number: u64, first: u32, second: u32, out: &mut [u8]) -> usize
 }
 
 // What a message says after its lead: the characters that the error carries, or the number.
+#[tactic(auto, using(crate::proofs::AnswerLaws::rests))]
 fn rest(number: u64, first: u32, second: u32, out: &mut [u8], at: usize) -> usize
     requires { at + longest_rest ≤ length out.old }
     ensures { Added out.old out.new at (rest_of number first second) result }
@@ -99,6 +104,7 @@ fn rest(number: u64, first: u32, second: u32, out: &mut [u8], at: usize) -> usiz
 }
 
 // An error of the Rust, which has a message: 15, `InvalidDigit`, it builds nowhere, and 25 it does not know.
+#[tactic(auto, unfolding(wat::specs::Bytes::between, crate::specs::MessageModel::known))]
 fn is_error(number: u64) -> bool
     ensures { result ≡ known number }
 {
@@ -106,6 +112,7 @@ fn is_error(number: u64) -> bool
 }
 
 // Whether there is a message: an error's number, characters that are scalar values, a confusing one of the nine.
+#[tactic(auto, using(crate::proofs::AnswerLaws::asked))]
 fn has_message(number: u64, first: u32, second: u32) -> bool
     ensures { result ≡ tellable number first second }
 {
@@ -132,6 +139,7 @@ fn hex_digit(d: u32) -> u8
 }
 
 // Rust's `{:x}`: at most eight digits, the highest first.
+#[tactic(auto, using(crate::proofs::HexLaws::digits))]
 fn lower_hex(out: &mut [u8], at: usize, n: u32) -> usize
     requires { at + 8 ≤ length out.old }
     ensures { Added out.old out.new at (hex n) result }
@@ -146,6 +154,7 @@ fn lower_hex(out: &mut [u8], at: usize, n: u32) -> usize
 }
 
 // The letter that stands for a character behind a backslash; 0 where it has none.
+#[tactic(auto, unfolding(crate::specs::Messages::named))]
 fn escape_letter(c: u32) -> u8
     ensures { result ≡ letter_byte (letter_of named c) }
 {
@@ -160,6 +169,7 @@ fn escape_letter(c: u32) -> u8
 }
 
 // A character as a message shows it.
+#[tactic(auto, using(crate::proofs::CharLaws::characters), unfolding(crate::specs::Spelled::shown))]
 fn escape_char(out: &mut [u8], at: usize, c: u32) -> usize
     requires { at + 12 ≤ length out.old }
     ensures { Added out.old out.new at (shown c) result }
@@ -184,6 +194,7 @@ fn escape_char(out: &mut [u8], at: usize, c: u32) -> usize
 }
 
 // A character, and the quote that closes it.
+#[tactic(auto, using(crate::proofs::CharLaws::texts))]
 fn quoted(out: &mut [u8], at: usize, c: u32) -> usize
     requires { at + 13 ≤ length out.old }
     ensures { Added out.old out.new at (shown c ++ bytes "'") result }
@@ -193,6 +204,7 @@ fn quoted(out: &mut [u8], at: usize, c: u32) -> usize
 }
 
 // Two characters: the one that had to come, and the one that came.
+#[tactic(auto, using(crate::proofs::CharLaws::texts))]
 fn expected(out: &mut [u8], at: usize, wanted: u32, found: u32) -> usize
     requires { at + longest_rest ≤ length out.old }
     ensures { Added out.old out.new at
