@@ -8,7 +8,7 @@ use mathlib.Core.Bool.{Bool, true, false}
 use mathlib.Core.List.{List, [], ◌∷◌, ◌++◌, append-nil}
 use lib.Dec.{eqb}
 use lib.ListN.{length, get_or, drop, set, length-append}
-use lib.Seq.{slice, append_snoc}
+use lib.Seq.{slice, append_snoc, length-slice}
 use borrow.Author.Tests.{eq-eqb, ne_eqb}
 use Rattle.wat.specs.declared.Sign.{Sign}
 use Rattle.wat_values.specs.declared.Reading.{Reading}
@@ -74,6 +74,11 @@ module _ {text d e : List ℕ} {from to i at n : ℕ} (x : Written text from to 
   pub written_all : bare (slice i to text) ≡ [] → Put d e at (bare (slice from to text))
   written_all q = subst (Put d e at) (sym (append-nil x.value) ∙ ap (λ (z : List ℕ). x.value ++ z) (sym q) ∙ x.rest) x.put
 
+-- what is bare of the bytes from i on, a byte at a time
+pub ruleset bares = (bare_off, bare_on, bare_end)
+
+pub ruleset writing = (bares, written_none, written_off, written_on, written_length)
+
 -- ---- handed over
 
 pub bare_plain : (s : List ℕ) → has (byte "_") s ≡ false → bare s ≡ s
@@ -110,3 +115,5 @@ in_text {sign} {start} {from} {len} o n c p buffer e b q l =
     let s : start ≡ o + n = omega (arith, b.next) in
     let k : len ≡ length (kept sign ++ p) = omega (arith, length-append (kept sign) p) in
     rw (e, b.plain, s, k) (Handed.fits (omega arith))
+
+pub ruleset handing = (length-slice, as_copy, in_text)

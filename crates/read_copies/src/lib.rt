@@ -1,5 +1,7 @@
 // Digits and their sign as the readers hand them over: where they stand, or a copy without `+` and underscores.
 
+#![tactic(auto)]
+
 ghost use Rattle.std.specs.Prelude.{◌≡◌, ◌++◌, ℕ, ◌+◌, ◌-◌, ◌≤◌, length};
 ghost use Rattle.std.proofs.Math.Seq.{slice};
 ghost use Rattle.wat_values.specs.Values.{copy as copy_of, bare, kept};
@@ -11,6 +13,7 @@ use wat::{Refusal, Sign};
 use wat_values::{NO_PLACE, Reading};
 
 // Digits and their sign, copied or in the text, where the sign stands beside them.
+#[tactic(auto, using(crate::proofs::CopyLaws::handing))]
 pub fn hand(
     text: &[u8],
     from: usize,
@@ -77,6 +80,7 @@ fn put_sign(sign: Sign, buffer: &mut [u8])
 }
 
 // How many of the bytes are no underscore.
+#[tactic(auto, using(crate::proofs::CopyLaws::bares))]
 fn bare_len(text: &[u8], from: usize, to: usize) -> usize
     requires { (from ≤ to) × (to ≤ length text.now) }
     ensures { (result ≡ length (bare (slice from to text.now))) × (result ≤ to - from) }
@@ -95,6 +99,7 @@ fn bare_len(text: &[u8], from: usize, to: usize) -> usize
 }
 
 // Writes those bytes from a place of the buffer on.
+#[tactic(auto, using(crate::proofs::CopyLaws::writing))]
 fn bare_into(text: &[u8], from: usize, to: usize, buffer: &mut [u8], at: usize)
     requires { (from ≤ to) × (to ≤ length text.now)
         × (at + length (bare (slice from to text.now)) ≤ length buffer.old) }
