@@ -1,25 +1,15 @@
 -- The part that an answer names has the bytes that `Second` asks, and one address: no second answer. Assumes nothing.
-use Prim.Native.Nat.{ℕ, ◌+◌}
-use mathlib.Core.Path.{◌≡◌, sym, ap, subst, ◌∙◌}
+use Prim.Native.Nat.{ℕ}
+use mathlib.Core.Path.{◌≡◌, sym, subst, ◌∙◌}
 use mathlib.Core.List.{List}
 use native.Mathlib.Omega.{arith}
-use native.Mathlib.Nat.{add_comm, add-sub_cancel_left}
 use lib.ListN.{take, drop}
 use denote.Ref.{Bor}
-use borrow.Rule.Slice.{PartAt.sl_part, Shared.by_byte}
 use Rattle.wat_values.specs.declared.Reading.{Reading}
 use Rattle.wat_values.specs.declared.Reading.TheVariants.{Refused, Absent, Text, Buffer}
 use Rattle.wat_values.specs.Reading.{Second}
 use Rattle.wat.proofs.Basics.{differ}
 use Rattle.read_second.specs.Parts.{PartRef, PartOf, PartFor}
-
--- a part that is borrowed by its start and its end
-pub borrowed : (s : Bor (List ℕ)) (start len name : ℕ)
-    → PartRef s start len (sl_part s (by_byte start s.ref_ptr.1) start (start + len) name)
-borrowed s start len name = record {
-  address = ap (λ (n : ℕ). (s.ref_ptr.0, n)) (add_comm start s.ref_ptr.1);
-  bytes = ap (λ (n : ℕ). take n (drop start s.now)) (add-sub_cancel_left start len);
-}
 
 -- the bytes that a part of a slice has
 having : {t b : List ℕ} {a : Reading} {s r : Bor (List ℕ)} {start len : ℕ} → PartRef s start len r
@@ -33,7 +23,7 @@ module _ {text buffer : Bor (List ℕ)} where
       having p (Second.none
       (λ s l (q : Text start len ≡ Text s l). let i : start ≡ s = cc in let j : len ≡ l = cc in omega arith)
       (λ s l (q : Text start len ≡ Buffer s l). differ (cc)))
-  part_second (PartFor.of_buffer (PartOf.inside h p)) = having p (Second.in_Buffer h)
+  part_second (PartFor.of_buffer (PartOf.inside h p)) = having p (Second.in_buffer h)
   part_second (PartFor.of_buffer {start} {len} (PartOf.outside h p)) =
       having p (Second.none
       (λ s l (q : Buffer start len ≡ Text s l). differ (cc))

@@ -1,5 +1,4 @@
--- Which reference the second call returns: into which slice, from where on, and to which bytes. A reference's third
--- field, its name, is left open: it is new with each borrow, stands in proofs alone, and no code can tell it.
+-- Which reference the second call returns: into which slice, from where on, and to which bytes.
 use Rattle.std.specs.Prelude.{ℕ, ◌+◌, ◌≤◌, ◌<◌, ◌≡◌, List, length, take, drop}
 use Rattle.std.specs.Borrow.{Bor}
 use Rattle.wat.specs.declared.Refusal.{Refusal}

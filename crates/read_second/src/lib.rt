@@ -1,4 +1,5 @@
 // The second call of the readers: the part that a first call named.
+#![tactic(auto)]
 
 ghost use Rattle.std.specs.Prelude.{◌≡◌};
 ghost use Rattle.wat_values.specs.Reading.{Second, reading_of};
