@@ -43,9 +43,9 @@ name_words_tell (name.Refused r p) (name.Refused q o) e =
 name_words_tell (name.Refused r p) (name.Text m j k) e = absurd (omega (arith, ap (word 0) e))
 name_words_tell (name.Refused r p) (name.Buffer m j k) e = absurd (omega (arith, ap (word 0) e))
 name_words_tell (name.Text n i l) (name.Refused q o) e = absurd (omega (arith, ap (word 0) e))
-name_words_tell (name.Text n i l) (name.Text m j k) e = cc (kind_word_tells n m (ap (word 5) e), ap (word 1) e, ap (word 2) e)
+name_words_tell (name.Text n i l) (name.Text m j k) e = cc (kind_word_tells n m (ap (word 5) e), ap (word 1) e)
 name_words_tell (name.Text n i l) (name.Buffer m j k) e = absurd (omega (arith, ap (word 0) e))
 name_words_tell (name.Buffer n i l) (name.Refused q o) e = absurd (omega (arith, ap (word 0) e))
 name_words_tell (name.Buffer n i l) (name.Text m j k) e = absurd (omega (arith, ap (word 0) e))
 name_words_tell (name.Buffer n i l) (name.Buffer m j k) e =
-    cc (kind_word_tells n m (ap (word 5) e), ap (word 1) e, ap (word 2) e)
+    cc (kind_word_tells n m (ap (word 5) e), ap (word 1) e)

@@ -1,4 +1,6 @@
 // The answers of the readers and of the messages as words, for C. include/thallusweb.h explains each word.
+#![tactic(auto)]
+
 ghost use Rattle.std.specs.Prelude.{◌≡◌};
 ghost use Rattle.c_read_words.specs.Words.{reading_words, name_words, name_word, kind_word};
 ghost use Rattle.c_read_words.specs.Words.{integer_sign_words, integer_words, float_sign_words, message_words};
