@@ -49,3 +49,8 @@ module _ {text : List ℕ} {pos : ℕ} {m : Entry} (s : Sound text pos m) where
       go (Sound.sound t) e = differ (cc)
       go (Sound.too_long h) e = same (calls.Annotates.too_long h) e
       go (Sound.not_utf8 h b) e = same (calls.Annotates.not_utf8 h b) e
+
+-- what `check_text` and `check` answer
+pub ruleset checked = (Sound.sound, Sound.too_long, Sound.not_utf8)
+
+pub ruleset placed = (text_sound, text_rejected, calls.Rejected.past_end, calls.Rejected.inside)

@@ -1,17 +1,20 @@
 // Which texts and positions are refused before lexing.
 
+#![tactic(auto)]
+
 ghost use Rattle.lex_entry.specs.Checks.{Sound, Meets};
 
 use wat::{Checked, Refusal, Token};
 
 // By what a text and a position are refused, 1 to 4.
-#[derive(Drop)]
+#[derive(Clone, Copy)]
 pub enum Entry {
     Stands,
     Rejected { refusal: Refusal, place: usize },
 }
 
 // 1 to 4: as `check_text`, and then the position is past the end, or inside a character.
+#[tactic(auto, using(crate::proofs::CheckLaws::placed))]
 pub fn check(text: &[u8], pos: usize) -> Entry
     ensures { Meets text.now pos result }
 {
@@ -36,6 +39,7 @@ pub fn check(text: &[u8], pos: usize) -> Entry
 }
 
 // 1 and 2: the text is too long, or no UTF-8.
+#[tactic(auto, using(crate::proofs::CheckLaws::checked))]
 pub fn check_text(text: &[u8], pos: usize) -> Entry
     ensures { Sound text.now pos result }
 {
