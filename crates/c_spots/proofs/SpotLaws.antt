@@ -21,7 +21,7 @@ module _ {text buffer w : List ℕ} where
   of_text e (Lies.outside h) = PartWords.none (λ q. h) (λ q. absurd (omega arith))
 
   pub of_buffer : {v : List ℕ} → get_or w 0 0 ≡ 3 → Lies 3 (length buffer) (get_or w 1 0) (get_or w 2 0) v → PartWords text buffer w v
-  of_buffer e (Lies.inside h) = PartWords.in_Buffer e h
+  of_buffer e (Lies.inside h) = PartWords.in_buffer e h
   of_buffer e (Lies.outside h) = PartWords.none (λ q. absurd (omega arith)) (λ q. h)
 
 pub of_neither : {text buffer w : List ℕ} → (get_or w 0 0 ≡ 1 → ⊥) → (get_or w 0 0 ≡ 3 → ⊥)
@@ -31,13 +31,13 @@ of_neither p q = PartWords.none (λ e. absurd (p e)) (λ e. absurd (q e))
 -- the second call has one answer
 pub part_words_one : {text buffer w u v : List ℕ} → PartWords text buffer w u → PartWords text buffer w v → u ≡ v
 part_words_one (PartWords.in_text e h) (PartWords.in_text f k) = refl
-part_words_one (PartWords.in_text e h) (PartWords.in_Buffer f k) = absurd (omega arith)
+part_words_one (PartWords.in_text e h) (PartWords.in_buffer f k) = absurd (omega arith)
 part_words_one (PartWords.in_text e h) (PartWords.none t b) = absurd (omega (arith, t e))
-part_words_one (PartWords.in_Buffer e h) (PartWords.in_text f k) = absurd (omega arith)
-part_words_one (PartWords.in_Buffer e h) (PartWords.in_Buffer f k) = refl
-part_words_one (PartWords.in_Buffer e h) (PartWords.none t b) = absurd (omega (arith, b e))
+part_words_one (PartWords.in_buffer e h) (PartWords.in_text f k) = absurd (omega arith)
+part_words_one (PartWords.in_buffer e h) (PartWords.in_buffer f k) = refl
+part_words_one (PartWords.in_buffer e h) (PartWords.none t b) = absurd (omega (arith, b e))
 part_words_one (PartWords.none t b) (PartWords.in_text f k) = absurd (omega (arith, t f))
-part_words_one (PartWords.none t b) (PartWords.in_Buffer f k) = absurd (omega (arith, b f))
+part_words_one (PartWords.none t b) (PartWords.in_buffer f k) = absurd (omega (arith, b f))
 part_words_one (PartWords.none t b) (PartWords.none u c) = refl
 
 -- the words of a move, and of one that is refused
@@ -80,3 +80,11 @@ moved_words_compose (MovedWords.moved {p = p} x) (MovedWords.refused y) =
 
 pub moved_words_stop : {place u p : List ℕ} (v : List ℕ) → MovedWords place u false p → MovedWords place (u ++ v) false place
 moved_words_stop v (MovedWords.refused x) = MovedWords.refused (moves_compose (InTwo.first x))
+
+-- for the tactics
+
+pub ruleset lies = (Lies.inside, Lies.outside)
+
+pub ruleset parts = (of_text, of_buffer, of_neither)
+
+pub ruleset moves = (of_moved, of_refused)
