@@ -1,4 +1,6 @@
 // The place counter, lent and changed by the call, which `thallusweb` passes on.
+#![tactic(auto)]
+
 ghost use Rattle.std.specs.Prelude.{◌≡◌};
 ghost use Rattle.place.specs.Places.{new, Moves};
 
