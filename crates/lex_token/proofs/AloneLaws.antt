@@ -59,14 +59,18 @@ module _ (s : List ℕ) (l : 0 < length s) {i : ℕ} (scan : Scanned idchar true
       subst WellFormed (sym (slice_split s 0 (length s) m (omega arith)))
       (ascii_formed (drop (length s) s) idchar_ascii (scanned_each all) (rw e WellFormed.empty))
 
-  pub word_whole : {k : ℕ} → k ≡ kind_number (word_kind (classify (slice 0 (length s) s)) (get_or s 0 0)) → Whole s k
-  word_whole e =
+  whole : {k : ℕ} → k ≡ kind_number (word_kind (classify (slice 0 (length s) s)) (get_or s 0 0)) → Whole s k
+  whole e =
       let q = next_end (byte "\"") s (length s) all.within in
       record {
         formed = word_formed;
         stepped =
             λ σ. stepped σ s 0 l word_formed (family_idchar (get_or s 0 0) first) (word_step σ s 0 (length s) all word_formed q l e);
       }
+
+pub word_whole : (s : List ℕ) (i k : ℕ) → Scanned idchar true s 0 i → i ≡ length s
+    → k ≡ kind_number (word_kind (classify (slice 0 (length s) s)) (get_or s 0 0)) → 0 < length s → Whole s k
+word_whole s i k scan h e l = whole s l scan h e
 
 -- ---- a string
 

@@ -30,8 +30,12 @@ use Rattle.wat.specs.declared.Hidden.TheVariants.{Clear, Found}
 use Rattle.lex_comments.specs.Ends.{line_stop, end_of, BlockEnd}
 use Rattle.lex_comments.proofs.BlockLaws.{open_none, closed_some}
 use Rattle.lex_comments.specs.Confusing.{before, hidden_in}
-use Rattle.lex_comments.proofs.LineLaws.{line_ends_lem, line_hides_nothing}
+use Rattle.lex_comments.proofs.LineLaws.{line_ends_lem, line_hides_nothing, line_goes_on}
 use Rattle.lex_token.proofs.SliceLaws.{next_byte}
+use Rattle.wat.specs.Cases.{kind_number}
+use Rattle.lex_token.specs.declared.Step.{Step}
+use Rattle.lex_token.specs.Steps.{step_of}
+use Rattle.lex_token.proofs.StepLaws.{step_token}
 
 -- ---- confusing characters
 
@@ -134,3 +138,31 @@ module _ (σ : Settings) (s : List ℕ) (at : ℕ) where
           let l = block_onward s at e z in
           block ∙ ap (block_by σ (drop at s)) (block_some s at e z)
           ∙ ap (λ (n : ℕ). comment σ kind.BlockComment n (drop at s)) (omega arith)
+
+-- what is answered for all of a comment is the token's
+module _ (σ : Settings) (s : List ℕ) (at end : ℕ) (r : Step) (b : Bool) where
+  pub block_whole :
+      ((k : TokenKind) → kind_number kind.BlockComment ≡ kind_number k → r ≡ step_of at (comment σ k (end - at) (drop at s)))
+      → BlockEnd s (at + 2) end → (end ≡ 0 → ⊥) → b ≡ next (byte ";") (drop (at + 1) s) → b ≡ true
+      → r ≡ step_of at (lex_by σ open_paren (drop at s))
+  block_whole f e z q n = f kind.BlockComment refl ∙ ap (step_of at) (sym (block_closed σ s at (sym q ∙ n) e z))
+
+  pub line_whole :
+      (j : ℕ)
+      → ((k : TokenKind) → kind_number kind.LineComment ≡ kind_number k → r ≡ step_of at (comment σ k (end - at) (drop at s)))
+      → Scanned newline false s j end → Scanned line_stop false s at j → b ≡ next (byte ";") (drop (at + 1) s) → b ≡ true
+      → r ≡ step_of at (lex_by σ semi (drop at s))
+  line_whole j f p q e n =
+      f kind.LineComment refl ∙ ap (step_of at) (sym (semi_comment σ s at (sym e ∙ n) (line_goes_on s at j q end p)))
+
+-- a line that nothing stops but its end
+pub line_plain : (σ : Settings) (s : List ℕ) (at j : ℕ) → Scanned line_stop false s at j → next 0xE2 (drop j s) ≡ false
+    → next (byte ";") (drop (at + 1) s) ≡ true → WellFormed (drop at s)
+    → record { kind = kind_number kind.LineComment; end = j } ≡ step_of at (lex_by σ semi (drop at s))
+line_plain σ s at j p q n g = step_token at (semi_plain σ s at n g p q) refl (omega (arith, p.end))
+
+pub ruleset comments = (comment_on, comment_off)
+
+pub ruleset lines = (semi_alone, line_goes_on, line_plain)
+
+pub ruleset parens = (open_alone, open_within, block_open, block_onward)

@@ -16,7 +16,7 @@ use Rattle.wat.specs.declared.TokenKind.{TokenKind}
 use Rattle.wat.specs.declared.TokenKind.TheVariants as kind
 use Rattle.wat.specs.Bytes.{byte, between, has, Each}
 use Rattle.wat.specs.Chars.{letter}
-use Rattle.wat.specs.Numbers.{digit, Digits, Signed, IsInteger}
+use Rattle.wat.specs.Numbers.{digit, Digits, Signed, IsInteger, KindOf}
 use Rattle.wat.specs.NumberModel.{strip, is, nothing_left, classify}
 use Rattle.wat.specs.LexModel.{next, word_kind}
 use Rattle.wat.specs.Tokens.{number_kind}
@@ -27,10 +27,11 @@ use Rattle.wat.proofs.Numbers.Decides.{complete_integer}
 use Rattle.lex_classes.specs.Scan.{Scanned}
 use Rattle.lex_classes.proofs.ScanLaws.{scanned_at}
 use Rattle.lex_numbers.proofs.SliceLaws.{at_byte, at_end_empty}
-use Rattle.lex_numbers.proofs.KindLaws.{is_none}
+use Rattle.lex_numbers.proofs.KindLaws.{is_none, classified}
 use Rattle.lex_token.specs.Fronts.{lettered}
 use Rattle.lex_token.proofs.SliceLaws.{slice_one, slice_two}
 use Rattle.lex_token.proofs.KindLaws.{plain_id, plain_letter}
+use Rattle.wat.specs.Cases.{kind_number}
 
 -- ---- no number begins so
 
@@ -128,9 +129,19 @@ module _ (s : List ℕ) (at end : ℕ) where
       pub front_two : at + 1 < end → lettered (get_or s at 0 ∷ get_or s (at + 1) 0 ∷ []) ≡ false → kind_here ≡ kind.Keyword
       front_two m e = keyword (ap lettered (slice_two s at end l m) ∙ e)
 
-    pub front_digits : {r : ℕ} → digit false (get_or s at 0) ≡ true → Scanned (digit false) true s (at + 1) r → end ≤ r
+    digits : {r : ℕ} → digit false (get_or s at 0) ≡ true → Scanned (digit false) true s (at + 1) r → end ≤ r
         → kind_here ≡ number_kind (Integer Unsigned false false)
-    front_digits {r} d c n =
+    digits {r} d c n =
         let all = scanned_at (digit false) true s (at + 1) r c in
         by_front (digits_alone _ _ d (digits_slice s end l (end - (at + 1)) (at + 1) (omega arith)
         (λ k g m. all k g (omega (arith, m)))))
+
+  pub front_digits : (r : ℕ) (b : Bool) → Scanned (digit false) true s (at + 1) r → end ≤ r → b ≡ digit false (get_or s at 0)
+      → b ≡ true → at < end → end ≤ length s → 11 ≡ kind_number kind_here
+  front_digits r b c n e d h l = sym (ap kind_number (digits h l (sym e ∙ d) c n))
+
+  -- the number that the whole word is tells it
+  pub front_told : (n : Number) (k : ℕ) → KindOf (slice at end s) n → k ≡ kind_number (kind_of n) → k ≡ kind_number kind_here
+  front_told n k c e = e ∙ ap (λ (m : Number). kind_number (kind_of m)) (classified c)
+
+pub ruleset fronts = (front_id, front_letter, front_two)

@@ -52,3 +52,7 @@ module _ (s : List ℕ) (at end : ℕ) where
       pub quoted_other : (get_or s at 0 ≡ byte "$" → ⊥) → (get_or s at 0 ≡ byte "@" → ⊥)
           → quoted_by (slice at end s) ≡ kind.Reserved
       quoted_other d a = one ∙ rw (ne_eqb (get_or s at 0) (byte "$") d, ne_eqb (get_or s at 0) (byte "@") a, quoted_by)
+
+pub ruleset plains = (plain_id, plain_annotation, plain_letter, plain_other)
+
+pub ruleset quoteds = (quoted_none, quoted_many, quoted_id, quoted_annotation, quoted_other)

@@ -19,7 +19,7 @@ use Rattle.wat.proofs.Families.{family_idchar}
 use Rattle.lex_classes.specs.Scan.{Scanned}
 use Rattle.lex_classes.proofs.ScanLaws.{passed_none, passed_one, scanned_then}
 use Rattle.lex_token.specs.declared.Step.{Step}
-use Rattle.lex_token.specs.Steps.{nowhere, step_of, Quick}
+use Rattle.lex_token.specs.Steps.{nowhere, step_of, Stepped, Quick}
 use Rattle.lex_token.proofs.StepLaws.{step_token, spaces_step, stepped}
 use Rattle.lex_token.proofs.CommentLaws.{open_alone}
 use Rattle.lex_token.proofs.ReservedLaws.{word_step}
@@ -47,3 +47,9 @@ module _ (s : List ℕ) (at : ℕ) (h : at < length s) (g : WellFormed (drop at 
         let one = passed_one idchar true s at at (passed_none idchar true s at (omega arith)) h e in
         let whole = scanned_then idchar true s at (at + 1) i one c in
         by_family (family_idchar _ e) (λ σ. word_step σ s at i whole g q (omega (arith, c.end)) w)
+
+-- a step that is known is the answer's
+pub quick_known : (σ : Settings) (s : List ℕ) (at : ℕ) (r : Step) → Quick s at r → (r.kind ≡ 0 → ⊥) → Stepped σ s at r
+quick_known σ s at r q n = q.known n σ
+
+pub ruleset quicks = (quick_none, by_family, quick_spaces, quick_open, quick_word)

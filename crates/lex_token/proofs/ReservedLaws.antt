@@ -16,9 +16,9 @@ use Rattle.wat.specs.declared.Settings.{Settings}
 use Rattle.wat.specs.Settings.{lenient}
 use Rattle.wat.specs.Utf8.{WellFormed}
 use Rattle.wat.specs.Chars.{idchar}
-use Rattle.wat.specs.Strings.{Str}
 use Rattle.wat.specs.Tokens.{Run}
 use Rattle.wat.specs.NumberModel.{classify}
+use Rattle.wat.specs.declared.RunEnd.{RunEnd}
 use Rattle.wat.specs.declared.RunEnd.TheVariants.{Stops as stops, Fails as fails}
 use Rattle.wat.specs.RunModel.{on, walk}
 use Rattle.wat.specs.declared.Family.TheVariants.{Run as run}
@@ -34,6 +34,10 @@ use Rattle.lex_token.proofs.SliceLaws.{slice_split, slice_take, slice_join}
 use Rattle.lex_token.proofs.StepLaws.{step_token, step_fault}
 use Rattle.lex_token.proofs.RunLaws.{walked, Ran, ran_more, ran_walk, scanned_each, ran_idchars, idchars_stop, Quoted}
 use Rattle.lex_token.proofs.LexLaws.{lex_family, Within, lex_within}
+use Rattle.lex_strings.specs.Parsing.{Ends, StringFails}
+use Rattle.lex_token.specs.declared.Step.{Step}
+use Rattle.lex_token.proofs.StringLaws.{parsed_closed, parsed_failed}
+use Rattle.lex_token.proofs.WalkLaws.{stops_of, fails_of}
 
 -- ---- the answer for a run, by where its walk ends
 
@@ -134,3 +138,42 @@ module _ (σ : Settings) (s : List ℕ) (at i j : ℕ) (c : Scanned idchar true 
     more_step h l =
         let more = kind_more (take n (drop j s)) (scanned_each c) (str_lenient d.is) (λ z. rest_some σ n (drop j s) e h z) in
         step_stops σ s at string_stops (ap kind_of (bytes_of n) ∙ more) refl (omega (arith, ran.onward))
+
+-- by what the code asks: the idchars from `at` to i, whether a quotation mark follows, the string and the run behind it
+module _ (σ : Settings) (s : List ℕ) (at i : ℕ) (b : Bool) (c : Scanned idchar true s at i)
+    (q : b ≡ next (byte "\"") (drop i s)) (g : WellFormed (drop at s)) where
+  pub word_here :
+      (k : ℕ) → k ≡ kind_number (word_kind (classify (slice at i s)) (get_or s at 0)) → b ≡ false → at < length s
+      → family (get_or s at 0) ≡ run → record { kind = k; end = i } ≡ step_of at (lex_by σ run (drop at s))
+  word_here k e n h f =
+      let u = sym q ∙ n in
+      word_step σ s at i c g u (word_some s at i c g u h f) e
+
+  module _ (n : b ≡ true) where
+    pub string_bad : (r : Step) (f : Fault) → r ≡ nowhere at → StringFails σ s (i + 1) f
+        → r ≡ step_of at (lex_by σ run (drop at s))
+    string_bad r f e x = e ∙ word_fails σ s at i c g (parsed_failed s i (sym q ∙ n) σ x refl).1
+
+    module _ (j : ℕ) (x : Ends σ s (i + 1) j) where
+      here : Quoted σ s i j
+      here = parsed_closed s i (sym q ∙ n) σ x (ran_idchars c {σ = σ} g).formed refl
+
+      pub rest_formed : WellFormed (drop j s)
+      rest_formed = here.ran.formed
+
+      -- where the run behind the string ends as z
+      module _ (z : RunEnd) (w : z ≡ on j (walked σ (drop j s))) where
+        pub rest_bad : (r : Step) (f : Fault) → r ≡ nowhere at → z ≡ fails f → r ≡ step_of at (lex_by σ run (drop at s))
+        rest_bad r f e y = e ∙ string_fails σ s at i j c g here (fails_of j (walked σ (drop j s)) (sym w ∙ y)).1
+
+        pub rest_none : (k m : ℕ) → z ≡ stops k → k ≡ j → m ≡ kind_number (quoted_by (slice at i s))
+            → record { kind = m; end = j } ≡ step_of at (lex_by σ run (drop at s))
+        rest_none k m y e l =
+            let p = stops_of j (walked σ (drop j s)) (sym w ∙ y) in
+            string_step σ s at i j c g here p.0 p.1 (omega (arith, p.2)) l
+
+        pub rest_more : (k : ℕ) → z ≡ stops k → (k ≡ j → ⊥)
+            → record { kind = 10; end = k } ≡ step_of at (lex_by σ run (drop at s))
+        rest_more k y e =
+            let p = stops_of j (walked σ (drop j s)) (sym w ∙ y) in
+            more_step σ s at i j c g here p.0 p.1 (omega (arith, p.2)) p.2

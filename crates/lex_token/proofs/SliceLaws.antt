@@ -40,3 +40,5 @@ module _ (s : List ℕ) (at end : ℕ) (h : end ≤ length s) where
         let n = length-take-le c s k in
         ap (drop at) (sym (take-append-drop end (take c s)) ∙ ap (λ (t : List ℕ). t ++ slice end c s) (take-take end c s m))
         ∙ drop-append-le at (take end s) (slice end c s) (let n = length-take-le end s h in omega arith)
+
+pub ruleset nexts = (next_end, next_byte)

@@ -20,7 +20,7 @@ use Rattle.wat.specs.Lexing.{Lexed}
 use Rattle.wat.specs.StringModel.{Peek, nothing, char, peek}
 use Rattle.wat.specs.LexModel as lex
 use Rattle.wat.specs.declared.Family.{Family}
-use Rattle.wat.specs.declared.Family.TheVariants.{Spaces as spaces}
+use Rattle.wat.specs.declared.Family.TheVariants.{Spaces as spaces, OpenParen as open_paren, Semi as semi, Run as run}
 use Rattle.wat.specs.LexModel.{family, count, lex_by}
 use Rattle.wat.proofs.Basics.{differ}
 use Rattle.wat.proofs.Families.{Families, is_space, is_open, is_close, is_semi, is_single, is_char, is_quote, is_other, families}
@@ -117,3 +117,22 @@ module _ {σ : Settings} {s : List ℕ} {at : ℕ} {r : Step} (q : Stepped σ s 
       go answer.End e (Lexed.end n) p = absurd (left n)
       go (answer.Token k n) e l p = absurd (kind_some k (sym (ap (λ (x : Step). x.kind) p) ∙ z))
       go (answer.Fault x) e l p = (x, e)
+
+-- the families that a function of their own reads
+module _ (σ : Settings) (s : List ℕ) (at : ℕ) (r : Step) where
+  pub stepped_open :
+      r ≡ step_of at (lex_by σ open_paren (drop at s)) → family (get_or s at 0) ≡ open_paren → at < length s
+      → WellFormed (drop at s) → Stepped σ s at r
+  stepped_open q e h g = stepped σ s at h g e q
+
+  pub stepped_semi :
+      r ≡ step_of at (lex_by σ semi (drop at s)) → family (get_or s at 0) ≡ semi → at < length s → WellFormed (drop at s)
+      → Stepped σ s at r
+  stepped_semi q e h g = stepped σ s at h g e q
+
+  pub stepped_run :
+      r ≡ step_of at (lex_by σ run (drop at s)) → family (get_or s at 0) ≡ run → at < length s → WellFormed (drop at s)
+      → Stepped σ s at r
+  stepped_run q e h g = stepped σ s at h g e q
+
+pub ruleset steps = (spaces_step, other_step, stepped, stepped_open, stepped_semi, stepped_run)

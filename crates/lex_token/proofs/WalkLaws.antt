@@ -11,7 +11,14 @@ use Rattle.wat.specs.Tokens.{Run}
 use Rattle.wat.specs.RunModel.{on}
 use Rattle.wat.proofs.Basics.{differ, shift_shift}
 use Rattle.wat.proofs.Runs.{Stopped, run_stops}
-use Rattle.lex_token.proofs.RunLaws.{walked, Ran, ran_walk}
+use Rattle.lex_token.proofs.RunLaws.{walked, Ran, ran_walk, ran_more, ran_idchars, idchars_stop}
+use mathlib.Core.Bool.{Bool, true, false}
+use Rattle.wat.specs.Bytes.{byte}
+use Rattle.wat.specs.Chars.{idchar}
+use Rattle.wat.specs.LexModel.{next}
+use Rattle.lex_classes.specs.Scan.{Scanned}
+use Rattle.lex_strings.specs.Parsing.{Ends, StringFails}
+use Rattle.lex_token.proofs.StringLaws.{parsed_closed, parsed_failed}
 
 module _ (σ : Settings) (s : List ℕ) (at i : ℕ) (r : Ran σ s at i) where
   pub walk_stops : Stopped (drop i s) → Stops i ≡ on at (walked σ (drop at s))
@@ -35,3 +42,21 @@ module _ (at : ℕ) where
   pub fails_of : {f : Fault} (w : RunEnd) → on at w ≡ Fails f → (x : Fault) × (w ≡ Fails x) × (f ≡ shift at x)
   fails_of (Stops n) e = differ (cc)
   fails_of (Fails x) e = (x, refl, cc)
+
+-- by what the code asks: the idchars from i to k, and whether a quotation mark follows
+module _ (σ : Settings) (s : List ℕ) (at i k : ℕ) (b : Bool) where
+  words : Scanned idchar true s i k → Ran σ s at i → Ran σ s at k
+  words c r = ran_more r (ran_idchars c r.formed)
+
+  pub run_ends : Scanned idchar true s i k → Ran σ s at i → b ≡ next (byte "\"") (drop k s) → b ≡ false
+      → Stops k ≡ on at (walked σ (drop at s))
+  run_ends c r q e = walk_stops σ s at k (words c r) (idchars_stop c (sym q ∙ e))
+
+  pub run_on : (end : ℕ) → Ends σ s (k + 1) end → Scanned idchar true s i k → b ≡ next (byte "\"") (drop k s) → b ≡ true
+      → Ran σ s at i → Ran σ s at end
+  run_on end x c q e r = let w = words c r in ran_more w (parsed_closed s k (sym q ∙ e) σ x w.formed refl).ran
+
+  pub run_breaks : (f : Fault) → StringFails σ s (k + 1) f → Scanned idchar true s i k → b ≡ next (byte "\"") (drop k s)
+      → b ≡ true → Ran σ s at i → Fails f ≡ on at (walked σ (drop at s))
+  run_breaks f x c q e r =
+      let p = parsed_failed s k (sym q ∙ e) σ x refl in walk_fails σ s at k (words c r) f p.0 p.1 p.2

@@ -2,6 +2,8 @@
 // `parse_reserved` of the Rust). Returns the kind's number and the end; 0 on an error. `lex_calls::fault_at` says which
 // error, at most once a listing.
 
+#![tactic(auto)]
+
 ghost use Rattle.std.specs.Prelude.{◌≡◌, true, suc, ◌-◌, ◌≤◌, ◌<◌, length, get_or, drop};
 ghost use Rattle.wat.specs.Utf8.{WellFormed};
 ghost use Rattle.wat.specs.Chars.{idchar};
@@ -20,7 +22,7 @@ mod alone;
 mod word_kinds;
 
 // A token by two numbers: that of its kind, and the place past it. 0 and the place itself where no token is.
-#[derive(Drop)]
+#[derive(Clone, Copy)]
 pub struct Step {
     pub kind: u16,
     pub end: usize,
@@ -28,6 +30,7 @@ pub struct Step {
 
 // The token at a place before the end, by its first byte.
 // https://webassembly.github.io/spec/core/text/lexical.html#text-token
+#[tactic(auto, using(crate::proofs::StepLaws::steps))]
 pub fn parse_kind(s: &[u8], at: usize, settings: Settings, t: &[u8; 256]) -> Step
     requires at_in_bounds { at < length s.now }
     requires well_formed { WellFormed (drop at s.now) }
@@ -74,6 +77,7 @@ pub fn step_at(s: &[u8], at: usize, settings: Settings, t: &[u8; 256]) -> Step
 
 // A word, white space, a parenthesis or other punctuation: what most tokens are, and the settings say nothing of. 0
 // where it is none of these. With one caller, it becomes part of the loop that calls it.
+#[tactic(auto, using(crate::proofs::QuickLaws::quicks))]
 fn quick(s: &[u8], at: usize, t: &[u8; 256]) -> Step
     requires at_in_bounds { at < length s.now }
     requires well_formed { WellFormed (drop at s.now) }
@@ -105,6 +109,7 @@ fn quick(s: &[u8], at: usize, t: &[u8; 256]) -> Step
 }
 
 // `(`, unless it begins a block comment.
+#[tactic(auto, using(crate::proofs::QuickLaws::quicks))]
 fn quick_paren(s: &[u8], at: usize) -> Step
     requires at_in_bounds { (at < length s.now) × (model.family (get_or s.now at 0) ≡ Family.OpenParen) }
     requires well_formed { WellFormed (drop at s.now) }
@@ -120,6 +125,7 @@ fn quick_paren(s: &[u8], at: usize) -> Step
 }
 
 // A word, unless a quotation mark follows it: its first idchar is seen already.
+#[tactic(auto, using(crate::proofs::QuickLaws::quicks))]
 fn quick_word(s: &[u8], at: usize, t: &[u8; 256]) -> Step
     requires at_in_bounds { (at < length s.now) × (idchar (get_or s.now at 0) ≡ true) }
     requires well_formed { WellFormed (drop at s.now) }
@@ -137,6 +143,7 @@ fn quick_word(s: &[u8], at: usize, t: &[u8; 256]) -> Step
 }
 
 // `(`, or a block comment.
+#[tactic(auto, using(crate::proofs::CommentLaws::parens))]
 fn open_paren(s: &[u8], at: usize, settings: Settings) -> Step
     requires at_in_bounds { at < length s.now }
     requires well_formed { WellFormed (drop at s.now) }
@@ -156,6 +163,7 @@ fn open_paren(s: &[u8], at: usize, settings: Settings) -> Step
 }
 
 // `;`, or a line comment: most have no byte that a confusing character begins with, and are passed by one search.
+#[tactic(auto, using(crate::proofs::CommentLaws::lines))]
 fn semicolon(s: &[u8], at: usize, settings: Settings) -> Step
     requires at_in_bounds { at < length s.now }
     requires well_formed { WellFormed (drop at s.now) }
@@ -184,6 +192,7 @@ fn semicolon(s: &[u8], at: usize, settings: Settings) -> Step
 }
 
 // The comment from `at` to `end`, unless it has a confusing character and none is allowed.
+#[tactic(auto, using(crate::proofs::CommentLaws::comments))]
 fn comment(s: &[u8], at: usize, end: usize, kind: u16, settings: Settings) -> Step
     requires at_le_end { (at ≤ end) × (end ≤ length s.now) }
     requires well_formed { WellFormed (drop at s.now) }
@@ -203,6 +212,7 @@ fn comment(s: &[u8], at: usize, end: usize, kind: u16, settings: Settings) -> St
 }
 
 // A token that is a run: idchars alone, idchars and one string, or more.
+#[tactic(auto, using(crate::proofs::ReservedLaws::word_some))]
 fn parse_reserved(s: &[u8], at: usize, settings: Settings, t: &[u8; 256]) -> Step
     requires at_in_bounds { (at < length s.now) × (model.family (get_or s.now at 0) ≡ Family.Run) }
     requires well_formed { WellFormed (drop at s.now) }
@@ -238,6 +248,7 @@ fn parse_reserved(s: &[u8], at: usize, settings: Settings, t: &[u8; 256]) -> Ste
 
 // The run of idchars and strings from `at` on.
 // https://webassembly.github.io/spec/core/text/values.html#text-string
+#[tactic(auto, using(crate::proofs::RunLaws::ran_none))]
 pub fn parse_run(s: &[u8], at: usize, settings: Settings, t: &[u8; 256]) -> RunEnd
     requires at_in_bounds { at ≤ length s.now }
     requires well_formed { WellFormed (drop at s.now) }
@@ -269,6 +280,7 @@ fn nothing(at: usize) -> Step
 }
 
 // Whether the byte at a place, which may be any, is b.
+#[tactic(auto, using(crate::proofs::SliceLaws::nexts))]
 pub fn is_at(s: &[u8], at: usize, b: u8) -> bool
     ensures { result ≡ next b (drop at s.now) }
 {

@@ -13,6 +13,7 @@ use wat::{FloatKind, IntegerKind, Number, TokenKind};
 
 // The number of the kind of the idchars from `at` to `end`. Their front tells most: with `$` no number begins, with a
 // letter few do, and digits alone are an integer.
+#[tactic(auto, using(crate::proofs::FrontLaws::fronts))]
 pub fn word_kind(s: &[u8], at: usize, end: usize, t: &[u8; 256]) -> u16
     requires at_lt_end { (at < end) × (end ≤ length s.now) }
     requires classes { Classes t.now }
@@ -85,6 +86,7 @@ fn named_kind(n: Number, b: u8, t: &[u8; 256]) -> u16
 // The number of the kind of a word that is no number, by its first byte.
 // https://webassembly.github.io/spec/core/text/values.html#text-id
 // https://webassembly.github.io/spec/core/text/lexical.html#text-keyword
+#[tactic(auto, using(crate::proofs::KindLaws::plains))]
 fn plain_kind(b: u8, t: &[u8; 256]) -> u16
     requires { Classes t.now }
     ensures { result ≡ kind_number (word_kind Neither b) }
@@ -102,6 +104,7 @@ fn plain_kind(b: u8, t: &[u8; 256]) -> u16
 }
 
 // The number of the kind of the idchars from `at` to `end` and one string.
+#[tactic(auto, using(crate::proofs::KindLaws::quoteds))]
 pub fn quoted_kind(s: &[u8], at: usize, end: usize) -> u16
     requires { (at ≤ end) × (end ≤ length s.now) }
     ensures { result ≡ kind_number (quoted_by (slice at end s.now)) }
