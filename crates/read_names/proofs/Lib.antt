@@ -1,4 +1,4 @@
 pub mod HandLaws
-mod PlainLaws
-mod QuotedLaws
-mod NameLaws
+pub mod PlainLaws
+pub mod QuotedLaws
+pub mod NameLaws

@@ -5,8 +5,6 @@ use mathlib.Core.List.{List, [], ◌∷◌}
 use native.Mathlib.Omega.{arith}
 use lib.ListN.{length, get_or, take, drop, length-append, length-drop}
 use lib.Seq.{take-append_seam, length-take-le}
-use denote.Enum.Declared.{tag_of}
-use types.Run.{OneOf, miss}
 use Rattle.wat.specs.declared.LexError.{LexError}
 use Rattle.wat.specs.declared.LexError.TheVariants.{InvalidUtf8Id}
 use Rattle.wat.specs.declared.Refusal.{Refusal}
@@ -23,7 +21,6 @@ use Rattle.wat.specs.Utf8Model.{checked}
 use Rattle.wat.specs.Strings.{Str}
 use Rattle.wat_values.specs.Values.{empty_name, Value, part, refused, copy_or_part, copied, Name}
 use Rattle.wat_values.specs.Reading.{no_place, Handed, reading_of, Whose}
-use Rattle.wat_values.specs.contracts.Reading.{the_type}
 use Rattle.wat.proofs.Basics.{differ, never}
 use Rattle.wat.proofs.Utf8Laws.{checked_says}
 use Rattle.wat.proofs.Runs.{quote_no_idchar}
@@ -98,10 +95,6 @@ names_room {buffer = buffer} {n = n} (Quotes.copied {v = v} p h f) q =
     let l : n ≡ length v = cc in
     omega (arith, length-append v (drop (length v) buffer))
 
--- the places, in the type of answers, of those that are neither
-abbrev neither : List ℕ
-neither = 0 ∷ 1 ∷ []
-
 module _ (k : NameKind) {w : List ℕ} (offset : ℕ) {buffer : List ℕ} where
   -- the name v is UTF-8 and not empty; or it is not UTF-8
   names_right : {r : NameReading} {after : List ℕ} (v : List ℕ) → Str lenient w v → 1 ≤ length v → Says v Ok
@@ -161,7 +154,7 @@ module _ (k : NameKind) {w : List ℕ} (offset : ℕ) {buffer : List ℕ} where
       let l : n ≡ length v = cc in
       let o : n - 0 ≡ length v = omega arith in
       names_right v p (str_escaped p h) (rw (o, take-append_seam v (drop (length v) buffer)) at u) (handed_copy offset buffer v 2 h f l)
-      Whose.in_Buffer
+      Whose.in_buffer
 
   pub names_wrong : {r : Reading} {after : List ℕ} {start n a b : ℕ} → Quotes w (offset + 1) buffer r after
       → r ≡ reading.Buffer start n → Says (take (n - 0) after) (Bad a b)
@@ -174,12 +167,17 @@ module _ (k : NameKind) {w : List ℕ} (offset : ℕ) {buffer : List ℕ} where
       names_not v p (rw (o, take-append_seam v (drop (length v) buffer)) at u) (wrong_copy offset buffer v h f)
 
   -- a string that is neither left nor copied has no room; 32 comes before 22
-  pub names_short : {r : Reading} {after : List ℕ} → Quotes w (offset + 1) buffer r after → OneOf neither (tag_of the_type r)
+  pub names_short : {r : Reading} {after : List ℕ} → Quotes w (offset + 1) buffer r after
+      → ((a n : ℕ) → r ≡ reading.Text a n → ⊥) → ((a n : ℕ) → r ≡ reading.Buffer a n → ⊥)
       → NameHanded k w offset buffer (Refused BufferTooShort no_place) after
-  names_short (Quotes.plain {v = v} p h) q = absurd (miss neither (tag_of the_type (reading.Text (offset + 1 + 1) (length v))) tt q)
-  names_short (Quotes.too_short {v = v} p h f) q = go (checked v) (checked_says v)
+  names_short (Quotes.plain p h) n m = absurd (n _ _ refl)
+  names_short (Quotes.too_short {v = v} p h f) n m = go (checked v) (checked_says v)
     where
       go : (c : Checked) → Says v c → NameHanded k w offset buffer (Refused BufferTooShort no_place) buffer
       go Ok u = names_right v p (str_escaped p h) u (handed_short offset buffer v 2 h f) Whose.no_name
       go (Bad a b) u = names_not v p u (wrong_short offset buffer v h f)
-  names_short (Quotes.copied {v = v} p h f) q = absurd (miss neither (tag_of the_type (reading.Buffer 0 (length v))) tt q)
+  names_short (Quotes.copied p h f) n m = absurd (m _ _ refl)
+
+pub ruleset begun = (name_some, name_empty, name_within, name_word_lem, name_quoted)
+
+pub ruleset named = (begun, names_room, names_empty, names_text, names_copied, names_wrong, names_short)

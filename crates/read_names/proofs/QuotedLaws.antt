@@ -78,3 +78,5 @@ module _ {text : List ℕ} {at len : ℕ} (q : Quoted text at len) where
       quoted_copied {after} h c =
           let d : after ≡ q.value ++ drop (length q.value) buffer = rw (whole.1, zero-add (length q.value)) at c.put.is in
           rw (d, measured) (Quotes.copied q.is (escape ∙ f) (omega (arith, measured)))
+
+pub ruleset quotes = (quoted_long, quoted_whole, quoted_plain, quoted_short, quoted_copied)

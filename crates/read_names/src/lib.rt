@@ -1,5 +1,7 @@
 // The values of strings and of names, at places where one stands: a part of the text, or a copy.
 
+#![tactic(auto)]
+
 ghost use Rattle.std.specs.Prelude.{◌≡◌, take, drop};
 ghost use Rattle.lex_classes.specs.Table.{Classes};
 ghost use Rattle.wat_values.specs.Values.{empty_name};
@@ -10,6 +12,7 @@ use wat_values::{NO_PLACE, NameKind, NameReading, Reading};
 
 // The string of `len` bytes at a place: what stands between its quotes, or a copy if it has an escape. The copy is
 // measured first, so that 32 changes no byte.
+#[tactic(auto, using(crate::proofs::QuotedLaws::quotes))]
 pub fn quoted(text: &[u8], at: usize, len: usize, buffer: &mut [u8], t: &[u8; 256]) -> Reading
     requires quoted { Quoted text.now at len }
     requires classes { Classes t.now }
@@ -44,6 +47,7 @@ fn empty_name(kind: NameKind) -> LexError
 
 // The name of a token of the kind, after its first byte: a word or a string. Only a decoded copy can fail to be UTF-8
 // (22); only a name that is not copied can be empty (23, 24).
+#[tactic(auto, using(crate::proofs::NameLaws::named))]
 pub fn name(
     text: &[u8],
     offset: usize,
