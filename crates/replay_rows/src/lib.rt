@@ -17,10 +17,12 @@
 // 2 a refusal, 3 no room; its kind or number; its offset or place; its length or first value; its second value; the
 // position or the count; the listing's position. Of type 4: the five words of thallusweb_read (include/thallusweb.h),
 // the token's length, 0. Of type 5: the same of thallusweb_name, the token's length, its sixth word.
+#![tactic(auto)]
+
 ghost use Rattle.std.specs.Prelude.{◌≡◌, ◌+◌, ◌<◌, ◌≤◌, length};
 
-use libc::STDOUT_FILENO;
 use messages::Told;
+use std::io;
 use wat::{Found, Listed, Parsed, Refusal};
 
 pub fn wide(x: u8) -> u64
@@ -107,23 +109,20 @@ pub fn listed_agrees(row: &[u8], listed: Listed) -> bool
         & (number_at(row, 36) == listed.position as u64)
 }
 
-fn line(name: &[u8], agree: u64, differ: u64) {
-    io::write_all(STDOUT_FILENO, name);
-    io::print_decimal(STDOUT_FILENO, agree);
-    io::write_all(STDOUT_FILENO, b" of ");
-    io::print_decimal(STDOUT_FILENO, std::num::wrapping_add_u64(agree, differ));
-    io::write_all(STDOUT_FILENO, b"\n");
+fn line(rt: &impl Print, name: &str, agree: u64, differ: u64) -> io::Result<()> {
+    let all = agree.wrapping_add(differ);
+    println!(rt; "{name} {agree} of {all}")
 }
 
 // What was counted: of each type of row how many agree, of the damaged rows how many differ, and whether all is as it
 // must be. `c` has the rows that are none at 1, then two for each type and for damaged rows.
-pub fn report(c: &[u64; 14]) {
-    line(b"parse ", c[2], c[3]);
-    line(b"annotation ", c[4], c[5]);
-    line(b"list ", c[6], c[7]);
-    line(b"read ", c[8], c[9]);
-    line(b"name ", c[10], c[11]);
-    line(b"damaged, and noticed ", c[12], c[13]);
+pub fn report(rt: &impl Print, c: &[u64; 14]) -> io::Result<()> {
+    line(rt, "parse", c[2], c[3])?;
+    line(rt, "annotation", c[4], c[5])?;
+    line(rt, "list", c[6], c[7])?;
+    line(rt, "read", c[8], c[9])?;
+    line(rt, "name", c[10], c[11])?;
+    line(rt, "damaged, and noticed", c[12], c[13])?;
     if (c[1] == 0)
         & (c[3] == 0)
         & (c[5] == 0)
@@ -132,8 +131,8 @@ pub fn report(c: &[u64; 14]) {
         & (c[11] == 0)
         & (c[13] == 0)
     {
-        io::write_all(STDOUT_FILENO, b"all agree\n");
+        println!(rt; "all agree")
     } else {
-        io::write_all(STDOUT_FILENO, b"answers differ\n");
+        println!(rt; "answers differ")
     }
 }
