@@ -1,8 +1,8 @@
 -- The parts of a float by its kind: what each function hands over is the value that the definitions give. Assumes nothing.
-use Prim.Native.Nat.{ℕ}
+use Prim.Native.Nat.{ℕ, ◌-◌, ◌<◌}
 use mathlib.Core.Path.{◌≡◌, refl, subst}
 use mathlib.Core.Bool.{Bool}
-use mathlib.Core.List.{List}
+use mathlib.Core.List.{List, ◌++◌}
 use lib.Seq.{slice}
 use Rattle.wat.specs.declared.FloatKind.{FloatKind}
 use Rattle.wat.specs.declared.FloatKind.TheVariants.{Inf, Nan, NanVal, Normal}
@@ -11,11 +11,14 @@ use Rattle.wat_values.specs.declared.{FloatPart.FloatPart, Reading.Reading, Read
 use Rattle.wat_values.specs.declared.FloatPart.TheVariants as the
 use Rattle.wat.specs.Bytes.{byte, has}
 use Rattle.wat.specs.Numbers.{IsFloat}
+use Rattle.wat.specs.NumberModel.{fraction}
 use Rattle.wat.specs.Tokens.{Tok}
+use Rattle.lex_numbers.specs.Places.{Skipped}
+use Rattle.lex_numbers.specs.declared.Skip.{Skip}
 use Rattle.wat_values.specs.Values.{Reader, Reads}
 use Rattle.wat_values.proofs.SomeValue.{MadeFloat, made}
-use Rattle.read_parts.specs.Handing.{At, Payload, Hands, HandsWhole, HandsPayload}
-use Rattle.read_parts.proofs.PartLaws.{none_left}
+use Rattle.read_parts.specs.Handing.{At, Payload, Leaves, Hands, HandsWhole, HandsPayload}
+use Rattle.read_parts.proofs.PartLaws.{none_left, Ended, fraction_ends, fraction_absent}
 
 -- whether a number has underscores
 pub gaps : {text : List ℕ} {at end : ℕ} {u h : Bool} → At (Tok (kind.Float (Normal u h))) text at end
@@ -26,10 +29,7 @@ module _ {text : List ℕ} {at end : ℕ} {k : FloatKind} (t : At (Tok (kind.Flo
   made_at : {j : FloatKind} → k ≡ j → MadeFloat j (slice at end text)
   made_at e = subst (λ (j : FloatKind). MadeFloat j (slice at end text)) e (made t.is)
 
-  -- the token is of that kind, and a number
-  pub as_kind : {j : FloatKind} → k ≡ j → At (Tok (kind.Float j)) text at end
-  as_kind e = subst (λ (j : FloatKind). At (Tok (kind.Float j)) text at end) e t
-
+  -- the token is a number
   pub normal_at : {u h : Bool} → k ≡ Normal u h → At (IsFloat h) text at end
   normal_at e = record { order = t.order; fits = t.fits; is = (made_at e).0 }
 
@@ -65,16 +65,16 @@ module _ {text : List ℕ} {at end : ℕ} {k : FloatKind} (t : At (Tok (kind.Flo
 
   module _ {p : FloatPart} {buffer : List ℕ} where
     pub inf_lacks : {n : Bool} → k ≡ Inf n → Hands (Reader.float p) (kind.Float k) text at end buffer Absent buffer
-    inf_lacks {n} e = likewise e refl go
+    inf_lacks {n} e = likewise e refl (go p)
       where
-        go : Hands (Reader.float p) (kind.Float (Inf n)) text at end buffer Absent buffer
-        go v Reads.of_inf = none_left at buffer
+        go : (q : FloatPart) → Hands (Reader.float q) (kind.Float (Inf n)) text at end buffer Absent buffer
+        go q v Reads.of_inf = none_left at buffer
 
     pub nan_lacks : {n : Bool} → k ≡ Nan n → Hands (Reader.float p) (kind.Float k) text at end buffer Absent buffer
-    nan_lacks {n} e = likewise e refl go
+    nan_lacks {n} e = likewise e refl (go p)
       where
-        go : Hands (Reader.float p) (kind.Float (Nan n)) text at end buffer Absent buffer
-        go v Reads.of_nan = none_left at buffer
+        go : (q : FloatPart) → Hands (Reader.float q) (kind.Float (Nan n)) text at end buffer Absent buffer
+        go q v Reads.of_nan = none_left at buffer
 
     pub payload_lacks : {n u : Bool} → k ≡ NanVal n u → (p ≡ the.Payload → ⊥)
         → Hands (Reader.float p) (kind.Float k) text at end buffer Absent buffer
@@ -91,3 +91,15 @@ module _ {text : List ℕ} {at end : ℕ} {k : FloatKind} (t : At (Tok (kind.Flo
       where
         go : Hands (Reader.float the.Payload) (kind.Float (Normal u h)) text at end buffer Absent buffer
         go v Reads.of_normal = none_left at buffer
+
+-- no fraction, or a point alone
+pub no_fraction : {text buffer : List ℕ} {at end : ℕ} {u hex : Bool} {skip : Skip} (dot to : ℕ)
+    → At (Tok (kind.Float (Normal u hex))) text at end → Leaves hex text at end (λ p f e. f ++ e) dot
+    → Skipped text end (fraction hex (slice dot end text)) skip → Ended end skip to → to - dot < 2
+    → Hands (Reader.float the.Fraction) (kind.Float (Normal u hex)) text at end buffer Absent buffer
+no_fraction {u = u} dot to t l s e h =
+    let n = normal_at t refl in
+    fraction_absent n l (fraction_ends n e l s) u h
+
+pub ruleset floats =
+    (payload_is_at, whole_hands, payload_hands, inf_lacks, nan_lacks, payload_lacks, normal_lacks)

@@ -16,15 +16,17 @@ use Rattle.wat.specs.declared.TokenKind.TheVariants as kind
 use Rattle.wat_values.specs.declared.FloatPart.TheVariants as the
 use Rattle.wat.specs.Bytes.{bytes, byte, has}
 use Rattle.wat.specs.Numbers.{prefix, nan_colon, Digits, Signed, IsFloat}
-use Rattle.wat.specs.NumberModel.{past, run, fraction, sign_of, after_sign}
+use Rattle.wat.specs.NumberModel.{Past, past, run, fraction, sign_of, after_sign}
 use Rattle.wat_values.specs.Values.{Reader, absent, copy_or_part, bare, dropped, kept, Split, Reads}
 use Rattle.wat_values.specs.Reading.{Handed}
 use Rattle.wat.proofs.Numbers.Digits.{passes}
 use Rattle.wat.proofs.Numbers.Parts.{plain, sign_passed, after_passed, digits_plain, signs, fraction_stops, fraction_passed}
 use Rattle.wat.proofs.Numbers.Decides.{body_plain}
-use Rattle.wat.proofs.Basics.{differ, or_no}
+use Rattle.wat.proofs.Basics.{or_no}
 use Rattle.wat_values.proofs.SomeValue.{float_split}
 use Rattle.wat_values.proofs.ValueLaws.{has_parts}
+use Rattle.lex_numbers.specs.Places.{Skipped}
+use Rattle.lex_numbers.specs.declared.Skip.{Skip}
 use Rattle.read_copies.specs.Copying.{HandsDigits}
 use Rattle.read_copies.proofs.CopyLaws.{bare_plain}
 use Rattle.read_parts.specs.Handing.{At, Payload, Left, Leaves, Hands}
@@ -57,6 +59,11 @@ sign_before text i from end {sign} fits g h w k =
     apart text end fits i from s.0 (after_sign (slice i end text)) (record { within = h; same = s.2 })
     (record { within = k; same = w }) in
     omega (arith, signed_length s.1)
+
+-- what `end_of` ensures of the place i
+abbrev pub Ended : ℕ → Skip → ℕ → Type 0
+Ended end skip i =
+    (text : List ℕ) (m : Past) (u : Bool) (v : List ℕ) → Skipped text end m skip → m ≡ past u v → Left text end v i
 
 -- ---- a finite number
 
@@ -140,6 +147,17 @@ module _ {hex : Bool} {text : List ℕ} {at end : ℕ} (t : At (IsFloat hex) tex
             omega arith,
             omega (arith, digits_place x i, signed_length x.signed, length-append u (prefix hex)),
           )
+
+  -- where its digits end, and its fraction, by what the scans find there
+
+  module _ {skip : Skip} {i j : ℕ} (ended : Ended end skip j) where
+    pub whole_ends : Leaves hex text at end (λ p f e. p ++ (f ++ e)) i → Skipped text end (run hex true (slice i end text)) skip
+        → Leaves hex text at end (λ p f e. f ++ e) j
+    whole_ends l s = λ sign u p f e x. ended _ _ _ _ s (whole_passed x (l sign u p f e x))
+
+    pub fraction_ends : Leaves hex text at end (λ p f e. f ++ e) i → Skipped text end (fraction hex (slice i end text)) skip
+        → Leaves hex text at end (λ p f e. e) j
+    fraction_ends l s = λ sign u p f e x. ended _ _ _ _ s (fraction_past x (l sign u p f e x))
 
   -- ---- its fraction, from `dot` to `to`
 

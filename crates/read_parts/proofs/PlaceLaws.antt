@@ -1,16 +1,10 @@
 -- Places in a text by what is left there up to an end: what stands between two of them, and how far apart they are. Assumes nothing.
 use Prim.Native.Nat.{ℕ, ◌+◌, ◌≤◌}
 use mathlib.Core.Path.{◌≡◌, sym, ap, ◌∙◌}
-use mathlib.Core.Bool.{Bool}
 use mathlib.Core.List.{List, ◌++◌}
 use native.Mathlib.Omega.{arith}
 use lib.ListN.{length, take, drop, length-append, take-append-drop}
 use lib.Seq.{slice, length-slice, take-take, drop-drop, take-append-add, take-append_seam, drop-append_seam, drop_at, length-take-le}
-use Rattle.wat.specs.NumberModel.{Past, past}
-use Rattle.wat.proofs.Basics.{differ}
-use Rattle.lex_numbers.specs.Places.{Skipped}
-use Rattle.lex_numbers.specs.declared.Skip.{Skip}
-use Rattle.lex_numbers.specs.declared.Skip.TheVariants.{Bad, To}
 use Rattle.read_parts.specs.Handing.{Left}
 
 module _ (text : List ℕ) (end : ℕ) (fits : end ≤ length text) where
@@ -48,20 +42,3 @@ module _ (text : List ℕ) (end : ℕ) (fits : end ≤ length text) where
             ap (λ (z : ℕ). slice z end text) q ∙ sym (drop-drop (length a) i (take end text)) ∙ ap (drop (length a)) l.same
             ∙ drop-append_seam a b;
       }
-
--- the place where a part ends that the model passes
-pub left_of : (skip : Skip) {text : List ℕ} {end : ℕ} {m : Past} {u u' : Bool} {v : List ℕ} {i : ℕ} → skip ≡ To u i
-    → Skipped text end m skip
-    → m ≡ past u' v → Left text end v i
-left_of Bad e s p = differ (cc)
-left_of (To w j) {text} {end} {m} {u} {u'} {v} {i} e s p =
-    let q : j ≡ i = cc in
-    let z : past w (slice j end text) ≡ past u' v = sym s.same ∙ p in
-    let y : slice j end text ≡ v = cc in
-    record { within = rw q at s.within; same = rw q at y }
-
-pub never_bad : (skip : Skip) {text : List ℕ} {end : ℕ} {m : Past} {u : Bool} {v : List ℕ} {P : Type 0} → skip ≡ Bad
-    → Skipped text end m skip
-    → m ≡ past u v → P
-never_bad Bad e s p = differ (let z = s.same in cc)
-never_bad (To w j) e s p = differ (cc)

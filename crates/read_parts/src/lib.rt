@@ -1,6 +1,9 @@
 // The parts of a number as the readers hand them over (`Token::integer` and `Token::float` of the Rust): digits,
 // fraction, exponent and payload. Each is given the token's place, from `at` to `end`, and what its kind says:
 // hexadecimal digits, underscores.
+
+#![tactic(auto)]
+
 ghost use Rattle.std.specs.Prelude.{◌≡◌, Bool, List, ◌++◌, ℕ};
 ghost use Rattle.wat.specs.declared.TokenKind.TheVariants.{Float};
 ghost use Rattle.wat.specs.declared.FloatKind.TheVariants.{Normal};
@@ -18,6 +21,7 @@ use wat::{FloatKind, Sign};
 use wat_values::{FloatPart, Reading};
 
 // A part of a float of a kind; a part that the kind lacks is absent.
+#[tactic(auto, using(crate::proofs::FloatLaws::floats))]
 pub fn float(
     text: &[u8],
     at: usize,
@@ -73,6 +77,7 @@ pub fn whole(
 }
 
 // The digits after the point, if there are any.
+#[tactic(auto, using(crate::proofs::FloatLaws::no_fraction))]
 fn fraction(
     text: &[u8],
     at: usize,
