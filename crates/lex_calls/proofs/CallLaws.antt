@@ -6,7 +6,7 @@ use mathlib.Core.List.{List, [], ◌∷◌}
 use native.Mathlib.Omega.{arith}
 use lib.ListN.{length, drop, length-drop, drop_of_length-le}
 use borrow.Author.Tests.{eqb-true}
-use Rattle.wat.specs.declared.{TokenKind.TokenKind, Fault.Fault, Answer.Answer, Found.Found, Parsed.Parsed, Settings.Settings}
+use Rattle.wat.specs.declared.{TokenKind.TokenKind, Fault.Fault, Answer.Answer, Settings.Settings}
 use Rattle.wat.specs.declared.TokenKind.TheVariants as kind
 use Rattle.wat.specs.declared.Refusal.TheVariants.{Lexical}
 use Rattle.wat.specs.declared.Answer.TheVariants as answer
@@ -23,11 +23,11 @@ use Rattle.codes.specs.declared.MaybeKind.{MaybeKind}
 use Rattle.codes.specs.declared.MaybeKind.TheVariants.{Kind, NoKind}
 use Rattle.codes.specs.Numbered.{Numbered}
 use Rattle.wat.proofs.KindNumbers.{kind_some, injective}
-use Rattle.codes.proofs.NumberLaws.{named_kind, no_kind}
+use Rattle.codes.proofs.NumberLaws.{named_kind, no_kind, same_kind, other_kind}
 use Rattle.lex_token.specs.declared.Step.{Step}
 use Rattle.lex_token.specs.Steps.{Stepped, Faults}
 use Rattle.lex_token.proofs.StepLaws.{token_of, fault_of}
-use Rattle.lex_token.proofs.LexLaws.{Within, lexed_within}
+use Rattle.lex_token.proofs.LexLaws.{lexed_within}
 
 -- ---- what is next
 
@@ -132,3 +132,12 @@ module _ (σ : Settings) (text : List ℕ) (pos : ℕ) (t : Text text) (g : AtSi
 
     pub annotation_other : (k ≡ kind.Annotation → ⊥) → Annotates σ text pos found.Nothing
     annotation_other z = Annotates.other t g z (lexes e)
+
+-- what `next`, `parse` and `annotation` answer
+pub ruleset nexts = (next_end, token_onward, next_token, fault_onward, next_fault)
+
+pub ruleset parses = (token_fits, fault_fits, Parses.rejected)
+
+pub ruleset signs =
+    (sign_none, sign_some, sign_stands, Annotates.elsewhere, token_fits, fault_fits, same_kind, other_kind,
+    annotation_end, annotation_fault, annotation_token, annotation_other)

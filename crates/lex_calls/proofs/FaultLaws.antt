@@ -1,5 +1,5 @@
 -- From an answer to the error that the code gives for it. Assumes nothing.
-use Prim.Native.Nat.{ℕ, suc, ◌+◌, ◌-◌, ◌≤◌}
+use Prim.Native.Nat.{ℕ, suc, ◌+◌, ◌-◌, ◌≤◌, ◌<◌}
 use mathlib.Core.Path.{◌≡◌, refl, sym, ap, subst, ◌∙◌}
 use mathlib.Core.Logic.{◌⊎◌, inl, inr, ⊎_elim}
 use mathlib.Core.Bool.{Bool, true, false}
@@ -7,7 +7,7 @@ use mathlib.Core.List.{List}
 use native.Mathlib.Omega.{arith}
 use native.Mathlib.Nat.{add-zero}
 use lib.Dec.{ltb}
-use lib.ListN.{length, drop}
+use lib.ListN.{length, get_or, drop}
 use Rattle.wat.specs.declared.TokenKind.{TokenKind}
 use Rattle.wat.specs.declared.TokenKind.TheVariants as kind
 use Rattle.wat.specs.declared.LexError.{LexError}
@@ -18,28 +18,24 @@ use Rattle.wat.specs.Bytes.{byte}
 use Rattle.wat.specs.declared.Settings.{Settings}
 use Rattle.wat.specs.Chars.{newline}
 use Rattle.wat.specs.declared.Hidden.{Hidden}
-use Rattle.wat.specs.declared.Family.TheVariants.{Semi as semi, Run as run}
+use Rattle.wat.specs.declared.Family.{Family}
+use Rattle.wat.specs.declared.Family.TheVariants.{Semi as semi}
 use Rattle.wat.specs.declared.Hidden.TheVariants.{Clear as clear, Found as found}
-use Rattle.wat.specs.LexModel.{next, hidden, comment, run_by, lex_by}
+use Rattle.wat.specs.LexModel.{next, hidden, comment, family, lex_by, lex}
 use Rattle.wat.proofs.Basics.{differ, fault_same}
 use Rattle.lex_classes.specs.Scan.{Scanned}
 use Rattle.wat.specs.declared.Hidden.TheVariants.{Clear, Found}
 use Rattle.lex_comments.specs.Confusing.{before, hidden_in}
 use Rattle.wat.specs.declared.Fault.{Fault}
-use Rattle.wat.specs.declared.RunEnd.TheVariants.{Stops, Fails}
 use Rattle.wat.specs.Faults.{fault, shift}
-use Rattle.wat.specs.RunModel.{on}
 use Rattle.lex_token.specs.Steps.{Faults}
-use Rattle.lex_token.proofs.RunLaws.{walked}
-use Rattle.lex_token.proofs.WalkLaws.{stops_of, fails_of}
+use Rattle.lex_token.proofs.LexLaws.{lex_family}
 use Rattle.lex_token.proofs.CommentLaws.{found_as, comment_on, comment_off, semi_alone, semi_comment}
+use Rattle.lex_token.proofs.CommentLaws.{open_alone, open_within, block_open, block_onward}
 
 module _ {at : ℕ} {a : Answer} {f : Fault} where
   pub fault_none : {k : TokenKind} {n : ℕ} → a ≡ answer.Token k n → Faults at a f
   fault_none e = record { is = λ x q. differ (cc) }
-
-  pub fault_end : a ≡ answer.End → Faults at a f
-  fault_end e = record { is = λ x q. differ (cc) }
 
   pub fault_is : {x : Fault} → a ≡ answer.Fault x → f ≡ shift at x → Faults at a f
   fault_is {x} q l = record { is = λ y z. let k : answer.Fault x ≡ answer.Fault y = cc in let d : x ≡ y = cc in l ∙ ap (shift at) d }
@@ -47,15 +43,6 @@ module _ {at : ℕ} {a : Answer} {f : Fault} where
 -- an error at the place itself, with nothing consumed
 pub fault_here : {at : ℕ} {a : Answer} {e : LexError} → a ≡ answer.Fault (fault e 0 0) → Faults at a (fault e at at)
 fault_here {at} {a} {e} q = fault_is q (fault_same e (sym (add-zero at)) (sym (add-zero at)))
-
--- ---- runs
-
-module _ (σ : Settings) (s : List ℕ) (at : ℕ) {f : Fault} where
-  pub run_fails : on at (walked σ (drop at s)) ≡ Fails f → Faults at (lex_by σ run (drop at s)) f
-  run_fails e = let w = fails_of at (walked σ (drop at s)) e in fault_is (ap (run_by (drop at s)) w.1) w.2
-
-  pub run_stops : {end : ℕ} → on at (walked σ (drop at s)) ≡ Stops end → Faults at (lex_by σ run (drop at s)) f
-  run_stops e = let w = stops_of at (walked σ (drop at s)) e in fault_none (ap (run_by (drop at s)) w.1)
 
 -- ---- comments
 
@@ -107,3 +94,14 @@ line_faults σ s at {end} {f} c h = go (next (byte ";") (drop (at + 1) s)) refl
     go : (b : Bool) → next (byte ";") (drop (at + 1) s) ≡ b → Faults at (lex_by σ semi (drop at s)) f
     go true e = subst (λ (a : Answer). Faults at a f) (sym (semi_comment σ s at e c)) (h kind.LineComment)
     go false e = fault_none (semi_alone σ s at e)
+
+-- the error of a byte's family is the error there
+pub family_fault :
+    (σ : Settings) (s : List ℕ) (at : ℕ) {g : Family} {f : Fault} → at < length s → family (get_or s at 0) ≡ g
+    → Faults at (lex_by σ g (drop at s)) f → Faults at (lex σ (drop at s)) f
+family_fault σ s at {f = f} h e q = subst (λ (a : Answer). Faults at a f) (sym (lex_family σ s at h e)) q
+
+-- the errors of a comment and of a block comment
+pub ruleset comment_faults = (comment_clear, comment_found)
+
+pub ruleset block_faults = (fault_none, fault_here, open_alone, open_within, block_open, block_onward)

@@ -1,6 +1,8 @@
 // The calls for one token, `parse` and `annotation`: the Rust's `Lexer`, with the text, its flag and the position as
 // plain parameters, and the errors.
 
+#![tactic(auto)]
+
 ghost use Rattle.std.specs.Prelude.{◌≡◌, ◌-◌, ◌≤◌, ◌<◌, length, drop};
 ghost use Rattle.wat.specs.declared.Settings.{Settings};
 ghost use Rattle.wat.specs.Utf8.{WellFormed};
@@ -20,6 +22,7 @@ use wat::{
 };
 
 // One token at a position.
+#[tactic(auto, using(crate::proofs::CallLaws::parses))]
 pub fn parse(text: &[u8], settings: Settings, pos: usize) -> Parsed
     ensures { Parses settings text.now pos result }
 {
@@ -33,6 +36,7 @@ pub fn parse(text: &[u8], settings: Settings, pos: usize) -> Parsed
 }
 
 // The answer at a position that stands, counted from the text's start.
+#[tactic(auto, using(crate::proofs::CallLaws::parses))]
 fn parse_at(text: &[u8], settings: Settings, pos: usize) -> Parsed
     requires { Stands text.now pos }
     ensures { Parses settings text.now pos result }
@@ -66,6 +70,7 @@ fn parse_at(text: &[u8], settings: Settings, pos: usize) -> Parsed
 
 // What is next at a place of a checked text. Every walk over the tokens of a text calls this, except the listing's
 // loop. Places count from there.
+#[tactic(auto, using(crate::proofs::CallLaws::nexts))]
 pub fn next(text: &[u8], at: usize, settings: Settings, t: &[u8; 256]) -> Answer
     requires at_in_bounds { at ≤ length text.now }
     requires well_formed { WellFormed (drop at text.now) }
@@ -113,6 +118,7 @@ pub fn fault_at(s: &[u8], at: usize, settings: Settings, t: &[u8; 256]) -> Fault
 }
 
 // 10, or 21 in a block comment.
+#[tactic(auto, using(crate::proofs::FaultLaws::block_faults))]
 fn block_fault(s: &[u8], at: usize) -> Fault
     requires at_in_bounds { at < length s.now }
     requires well_formed { WellFormed (drop at s.now) }
@@ -133,6 +139,7 @@ fn block_fault(s: &[u8], at: usize) -> Fault
 }
 
 // 21 in the comment from `at` to `end`.
+#[tactic(auto, using(crate::proofs::FaultLaws::comment_faults))]
 fn comment_fault(s: &[u8], at: usize, end: usize) -> Fault
     requires at_le_end { (at ≤ end) × (end ≤ length s.now) }
     requires well_formed { WellFormed (drop at s.now) }
@@ -189,6 +196,7 @@ fn no_error(at: usize) -> Fault {
 }
 
 // The annotation at a position, if one is there. A position at which no `@` stands is not looked at further.
+#[tactic(auto, using(lex_entry::proofs::CheckLaws::text_annotates))]
 pub fn annotation(text: &[u8], settings: Settings, pos: usize) -> Found
     ensures { Annotates settings text.now pos result }
 {
@@ -199,6 +207,7 @@ pub fn annotation(text: &[u8], settings: Settings, pos: usize) -> Found
 }
 
 // The same in a text that is checked.
+#[tactic(auto, using(crate::proofs::CallLaws::signs))]
 fn annotation_at(text: &[u8], settings: Settings, pos: usize) -> Found
     requires { Text text.now }
     ensures { Annotates settings text.now pos result }
