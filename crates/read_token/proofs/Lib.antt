@@ -1,1 +1,2 @@
 pub mod PresentLaws
+pub mod KindLaws

@@ -106,3 +106,5 @@ module _ {text : List ℕ} {token : Token} (t : There text token) where
       → Handed token.offset v buffer r after)
       → Read reader text token buffer r after
   hands_reads e takes h = let v = one.reads (there_slice e) takes in slice_reads e v.1 (h v.0 v.1)
+
+pub ruleset presents = (Missing.rejected, none_there, other_kind_there, other_length_there, there)

@@ -1,5 +1,7 @@
 // Whether a token that a caller hands in is there, of a kind, a number, and one that has a name.
 
+#![tactic(auto)]
+
 ghost use Rattle.std.specs.Prelude.{◌≡◌, true};
 ghost use Rattle.wat.specs.Calls.{Stands};
 ghost use Rattle.wat_values.specs.Reading.{There};
@@ -11,12 +13,13 @@ use wat::{FloatKind, IntegerKind, Refusal, Settings, Token, TokenKind};
 use wat_values::{NO_PLACE, NameKind};
 
 // Whether a token is there: 1 to 4 at its offset, and 30.
-#[derive(Drop)]
+#[derive(Clone, Copy)]
 pub enum TokenCheck {
     There,
     Refused { refusal: Refusal, place: usize },
 }
 
+#[tactic(auto, using(crate::proofs::PresentLaws::presents))]
 pub fn present(text: &[u8], token: Token, t: &[u8; 256]) -> TokenCheck
     requires { Classes t.now }
     ensures { Here text.now token result }
@@ -51,6 +54,7 @@ fn alone(text: &[u8], token: Token, t: &[u8; 256]) -> bool
 }
 
 // 30, at an offset that stands: lexing there, leniently, gives another kind or another length, or nothing.
+#[tactic(auto, using(crate::proofs::PresentLaws::presents))]
 fn present_at(text: &[u8], token: Token, t: &[u8; 256]) -> TokenCheck
     requires stands { Stands text.now token.offset }
     requires classes { Classes t.now }
@@ -81,6 +85,7 @@ fn present_at(text: &[u8], token: Token, t: &[u8; 256]) -> TokenCheck
 }
 
 // As `present`, and then 31: its kind is not the one wanted.
+#[tactic(auto, using(crate::proofs::KindLaws::takens))]
 pub fn taken(text: &[u8], token: Token, wanted: TokenKind, t: &[u8; 256]) -> TokenCheck
     requires { Classes t.now }
     ensures { Taken text.now token wanted result }
@@ -101,13 +106,14 @@ pub fn taken(text: &[u8], token: Token, wanted: TokenKind, t: &[u8; 256]) -> Tok
 }
 
 // The kind of a number that is there; else 1 to 4, 30 or 31.
-#[derive(Drop)]
+#[derive(Clone, Copy)]
 pub enum NumberKind {
     Refused { refusal: Refusal, place: usize },
     Integer(IntegerKind),
     Float(FloatKind),
 }
 
+#[tactic(auto, using(crate::proofs::KindLaws::numbers))]
 pub fn number_kind(text: &[u8], token: Token, t: &[u8; 256]) -> NumberKind
     requires { Classes t.now }
     ensures { HereNumber text.now token result }
@@ -129,12 +135,13 @@ pub fn number_kind(text: &[u8], token: Token, t: &[u8; 256]) -> NumberKind
 }
 
 // Whose name a token that is there has; else 1 to 4, 30 or 31.
-#[derive(Drop)]
+#[derive(Clone, Copy)]
 pub enum NameCheck {
     Refused { refusal: Refusal, place: usize },
     Named(NameKind),
 }
 
+#[tactic(auto, using(crate::proofs::KindLaws::names))]
 pub fn name_kind(text: &[u8], token: Token, t: &[u8; 256]) -> NameCheck
     requires { Classes t.now }
     ensures { HereName text.now token result }
