@@ -5,7 +5,7 @@ use mathlib.Core.List.{List, [], ◌∷◌, ◌++◌}
 use native.Mathlib.Omega.{arith}
 use lib.ListN.{length, take, drop, length-append, take-append-drop}
 use lib.Seq.{drop-drop, take-append_seam, drop-append_seam}
-use Rattle.wat.specs.declared.{TokenKind.TokenKind, Settings.Settings, Fault.Fault, Answer.Answer, Stop.Stop, Listed.Listed}
+use Rattle.wat.specs.declared.{TokenKind.TokenKind, Settings.Settings, Fault.Fault, Answer.Answer, Stop.Stop}
 use Rattle.wat.specs.declared.Refusal.TheVariants.{Lexical}
 use Rattle.wat.specs.declared.Answer.TheVariants as answer
 use Rattle.wat.specs.declared.Stop.TheVariants as stop
@@ -124,3 +124,8 @@ module _ {σ : Settings} {text : List ℕ} {start budget : ℕ} {old out : List 
       let m : r.end - at ≡ t.1 = omega (arith, t.4) in
       let put : Put out new (record_size * n) (little 4 t.1 ++ little 2 (kind_number t.0)) = rw (← u, ← m, ← t.3) p in
       rw t.4 (goes_more new t.0 t.1 (lexes t.2) q (omega arith) put)
+
+-- what the loop and the call of the listing answer
+pub ruleset goings = (goes_start, goes_end, goes_budget, goes_full, goes_stepped)
+
+pub ruleset refusals = (Listing.rejected)

@@ -1,4 +1,7 @@
 // The listing: the tokens of a text from a start on, as records in a lent list. The Rust's `iter` up to an error.
+
+#![tactic(auto)]
+
 ghost use Rattle.std.specs.Prelude.{◌+◌, ◌≤◌, ◌<◌, ◌++◌, length, drop};
 ghost use Rattle.wat.specs.Division.{little, record_size, Listing};
 ghost use Rattle.wat.specs.Calls.{Stands};
@@ -8,6 +11,7 @@ use lex_entry::Entry;
 use wat::{Listed, Refusal, Settings, Stop, Token};
 
 // A token's record at a place of the list: its length in four bytes and its kind in two, the least first.
+#[tactic(auto, using(crate::proofs::RecordLaws::six_stores))]
 fn put_record(list: &mut [u8], to: usize, len: usize, kind: u16)
     requires { (to + record_size ≤ length list.old) × (len < 4294967296) }
     ensures { Put list.old list.new to (little 4 len ++ little 2 kind) }
@@ -21,6 +25,7 @@ fn put_record(list: &mut [u8], to: usize, len: usize, kind: u16)
 }
 
 // The listing from a place at which a text may be read. The text is checked no more: one check serves for all tokens.
+#[tactic(auto, using(crate::proofs::GoesLaws::goings))]
 fn list_from(
     text: &[u8],
     settings: Settings,
@@ -76,6 +81,7 @@ fn list_from(
 }
 
 // The listing call: at most `budget` tokens from `start` on, as many as the list has room for.
+#[tactic(auto, using(crate::proofs::GoesLaws::refusals))]
 pub fn list(text: &[u8], settings: Settings, start: usize, budget: usize, list: &mut [u8]) -> Listed
     ensures { Listing settings text.now start budget list.old result list.new }
 {
