@@ -39,7 +39,7 @@ src_reads {text} {token} t =
 -- ---- 31
 
 module _ {text : List ℕ} {token : Token} {k : TokenKind} where
-  pub taken_there : {m : TokenCheck} → Taken text token k m → m ≡ presence.There → There text token × (token.kind ≡ k)
+  taken_there : {m : TokenCheck} → Taken text token k m → m ≡ presence.There → There text token × (token.kind ≡ k)
   taken_there (Taken.taken t e) q = (t, e)
   taken_there (Taken.missing b) q = differ (cc)
   taken_there (Taken.other_kind t n) q = differ (cc)
@@ -61,7 +61,7 @@ only_string j Takes.a_string = refl
 -- ---- strings
 
 module _ {text : List ℕ} {token : Token} (t : There text token × (token.kind ≡ kind.String)) where
-  pub string_quoted : Quoted text token.offset token.len
+  string_quoted : Quoted text token.offset token.len
   string_quoted =
       let s = go (one.reads (rw t.1 at (is_token t.0.lexed)) Takes.a_string).1 in
       record { fits = there_fits t.0; value = s.0; is = s.1 }
@@ -69,7 +69,7 @@ module _ {text : List ℕ} {token : Token} (t : There text token × (token.kind 
       go : {w : List ℕ} {v : Value} → Reads Reader.string kind.String w v → (u : List ℕ) × Str lenient w u
       go (Reads.a_string p) = (_, p)
 
-  pub string_reads : {buffer after : List ℕ} {r : Reading} → Quotes (own text token) token.offset buffer r after
+  string_reads : {buffer after : List ℕ} {r : Reading} → Quotes (own text token) token.offset buffer r after
       → Read Reader.string text token buffer r after
   string_reads {buffer} (Quotes.plain {v = v} p h) =
       there_reads t.0 t.1 (Reads.a_string p) (handed_left token.offset buffer v 1 h refl refl)
@@ -91,7 +91,7 @@ tail_is text token {x} {w} e =
     go (suc n) (y ∷ t) q e = let m : suc n - 1 ≡ n = omega arith in rw m (cc)
 
 module _ {text : List ℕ} {token : Token} where
-  pub name_there : {m : NameCheck} {n : NameKind} → HereName text token m → m ≡ name.Named n
+  name_there : {m : NameCheck} {n : NameKind} → HereName text token m → m ≡ name.Named n
       → There text token × (x : ℕ) × Sigil n token.kind x
   name_there (HereName.missing b) e = differ (cc)
   name_there (HereName.no_name t h) e = differ (cc)
@@ -124,13 +124,39 @@ module _ {n : NameKind} {text : List ℕ} {token : Token} (t : There text token 
       go s (Reads.a_name {w = u} {v = v} q o) =
           let z = sigil_one q s in (u, cc z.1, subst (λ (m : NameKind). Name m u v) z.0 o)
 
-  pub name_sigiled : Sigiled n text token.offset token.len
+  name_sigiled : Sigiled n text token.offset token.len
   name_sigiled =
       let s = split in record { fits = there_fits t.0; sigil = t.1; is = s.0; value = s.1; named = s.2 }
 
-  pub name_reads : {buffer after : List ℕ} {r : NameReading}
+  name_reads : {buffer after : List ℕ} {r : NameReading}
       → NameHanded n (tail text token.offset token.len) token.offset buffer r after
       → ReadsName text token buffer r after
   name_reads q =
       let r = subst (λ (w : List ℕ). Reads Reader.name token.kind w q.value) (sym split.0) (Reads.a_name t.2 q.is) in
       named_reads t.2 q.whose (Read.reads t.0 r q.handed)
+
+-- ---- from what `taken` and `name_kind` answer
+
+module _ {text : List ℕ} {token : Token} where
+  module _ (h : Taken text token kind.String presence.There) where
+    pub string_at : Quoted text token.offset token.len
+    string_at = string_quoted (taken_there h refl)
+
+    pub string_read : {buffer after : List ℕ} {r : Reading} → Quotes (own text token) token.offset buffer r after
+        → Read Reader.string text token buffer r after
+    string_read q = string_reads (taken_there h refl) q
+
+  module _ {n : NameKind} (h : HereName text token (name.Named n)) where
+    pub name_at : Sigiled n text token.offset token.len
+    name_at = name_sigiled (name_there h refl)
+
+    pub name_read : {buffer after : List ℕ} {r : NameReading}
+        → NameHanded n (tail text token.offset token.len) token.offset buffer r after
+        → ReadsName text token buffer r after
+    name_read q = name_reads (name_there h refl) q
+
+pub ruleset sources = (src_reads, Read.missing)
+
+pub ruleset strings = (taken_refused, only_string, string_at, string_read)
+
+pub ruleset names = (name_refused, name_at)

@@ -1,6 +1,8 @@
 // The readers of all but numbers: the Rust's `Token::src` and `string`, and for its `id` and `annotation` `name`, each
 // as two calls. The first writes a copy if one is needed and says where the value is; the second returns that part.
 
+#![tactic(auto)]
+
 ghost use Rattle.std.specs.Prelude.{[]};
 ghost use Rattle.wat_values.specs.Values.{Reader};
 ghost use Rattle.wat_values.specs.Reading.{Read, ReadsName};
@@ -10,6 +12,7 @@ use wat::{Token, TokenKind};
 use wat_values::{NameReading, Reading};
 
 // A token's own bytes: the reader of any kind. It never copies.
+#[tactic(auto, using(crate::proofs::ReadLaws::sources))]
 pub fn src(text: &[u8], token: Token) -> Reading
     ensures { Read Reader.src text.now token [] result [] }
 {
@@ -24,6 +27,7 @@ pub fn src(text: &[u8], token: Token) -> Reading
 }
 
 // The bytes that a string stands for.
+#[tactic(auto, using(crate::proofs::ReadLaws::strings))]
 pub fn string(text: &[u8], token: Token, buffer: &mut [u8]) -> Reading
     ensures { Read Reader.string text.now token buffer.old result buffer.new }
 {
@@ -39,6 +43,7 @@ pub fn string(text: &[u8], token: Token, buffer: &mut [u8]) -> Reading
 }
 
 // The name of an id, after its `$`, or of an annotation, after its `@`, and which of the two it is.
+#[tactic(auto, using(crate::proofs::ReadLaws::names))]
 pub fn name(text: &[u8], token: Token, buffer: &mut [u8]) -> NameReading
     ensures { ReadsName text.now token buffer.old result buffer.new }
 {
