@@ -1,5 +1,7 @@
 // The readers of floats, the Rust's `Token::float`: its parts, one call for each, and whether it is negative.
 
+#![tactic(auto)]
+
 ghost use Rattle.wat_values.specs.declared.FloatPart.TheVariants.{Integral, Fraction, Exponent, Payload};
 ghost use Rattle.wat_values.specs.Values.{float};
 ghost use Rattle.wat_values.specs.Reading.{Read, ReadsNegative};
@@ -9,6 +11,7 @@ use wat::{FloatKind, Refusal, Token};
 use wat_values::{FloatPart, FloatSign, NO_PLACE, Reading};
 
 // A part of a float, absent where its kind lacks it.
+#[tactic(auto, using(crate::proofs::ReadLaws::parts))]
 pub fn part(text: &[u8], token: Token, which: FloatPart, buffer: &mut [u8]) -> Reading
     ensures { Read (float which) text.now token buffer.old result buffer.new }
 {
@@ -56,6 +59,7 @@ pub fn payload(text: &[u8], token: Token, buffer: &mut [u8]) -> Reading
 }
 
 // Whether a float is negative. A Normal's sign is in its integral part.
+#[tactic(auto, using(crate::proofs::ReadLaws::signs))]
 pub fn float_sign(text: &[u8], token: Token) -> FloatSign
     ensures { ReadsNegative text.now token result }
 {
