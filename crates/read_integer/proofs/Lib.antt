@@ -1,1 +1,1 @@
-mod ReadLaws
+pub mod ReadLaws

@@ -2,18 +2,20 @@
 use Prim.Native.Nat.{ℕ, ◌+◌}
 use mathlib.Core.Path.{◌≡◌, refl}
 use mathlib.Core.List.{List}
+use native.Mathlib.Omega.{arith}
 use Rattle.wat.specs.declared.{IntegerKind.IntegerKind, FloatKind.FloatKind, TokenKind.TokenKind, Token.Token, Refusal.Refusal}
 use Rattle.wat_values.specs.declared.Reading.{Reading}
 use Rattle.wat.specs.declared.Refusal.TheVariants.{NotThatKind}
 use Rattle.wat.specs.declared.TokenKind.TheVariants as kind
 use Rattle.wat_values.specs.declared.Reading.TheVariants.{Refused}
 use Rattle.wat_values.specs.declared.IntegerSign.TheVariants as integer
+use Rattle.wat.specs.Numbers.{IsFloat}
 use Rattle.wat_values.specs.Values.{Reader, Takes, Reads}
 use Rattle.wat_values.specs.Reading.{There, no_place, Read, ReadsSign}
-use Rattle.wat_values.proofs.SomeValue.{made, kinds_apart, integer_split}
-use Rattle.read_parts.specs.Handing.{HandsWhole}
+use Rattle.wat_values.proofs.SomeValue.{made, kinds_apart, integer_split, integer_float}
+use Rattle.read_parts.specs.Handing.{At, HandsWhole}
 use Rattle.read_token.specs.Here.{Denied}
-use Rattle.read_token.proofs.PresentLaws.{there_slice, slice_reads}
+use Rattle.read_token.proofs.PresentLaws.{there_fits, there_slice, slice_reads}
 
 pub integer_read : {text : List ℕ} {token : Token} {buffer after : List ℕ} {r : Reading} {i : IntegerKind} → There text token
     → token.kind ≡ kind.Integer i
@@ -23,6 +25,12 @@ integer_read {i = i} t e h =
     let m = made (there_slice t e) in
     let x = (integer_split m.0).2 in
     slice_reads t e (Reads.an_integer {i = i} x) (h _ _ _ _ _ x m.1)
+
+-- it is a float too, as its digits are read
+pub integer_at : {text : List ℕ} {token : Token} {i : IntegerKind} → There text token → token.kind ≡ kind.Integer i
+    → At (IsFloat i.hex) text token.offset (token.offset + token.len)
+integer_at t e =
+    record { order = omega arith; fits = there_fits t; is = integer_float (made (there_slice t e)).0 }
 
 -- ---- a token that is not there, or is another
 
@@ -46,3 +54,7 @@ module _ {text : List ℕ} {token : Token} where
   pub float_sign_denied : {f : FloatKind} → There text token × (token.kind ≡ kind.Float f)
       → ReadsSign text token (integer.Refused NotThatKind no_place)
   float_sign_denied (t, e) = ReadsSign.other_kind t (λ i q. kinds_apart q e)
+
+pub ruleset digits = (there_fits, integer_at, integer_read, integer_denied, float_denied)
+
+pub ruleset signs = (ReadsSign.sign, sign_denied, float_sign_denied)

@@ -1,5 +1,7 @@
 // The readers of integers, the Rust's `Token::integer`: a sign, and the digits.
 
+#![tactic(auto)]
+
 ghost use Rattle.wat_values.specs.Values.{Reader};
 ghost use Rattle.wat_values.specs.Reading.{Read, ReadsSign};
 
@@ -8,6 +10,7 @@ use wat::{Refusal, Token};
 use wat_values::{IntegerSign, NO_PLACE, Reading};
 
 // An integer's digits, with a `-`.
+#[tactic(auto, using(crate::proofs::ReadLaws::digits))]
 pub fn integer(text: &[u8], token: Token, buffer: &mut [u8]) -> Reading
     ensures { Read Reader.digits text.now token buffer.old result buffer.new }
 {
@@ -27,6 +30,7 @@ pub fn integer(text: &[u8], token: Token, buffer: &mut [u8]) -> Reading
     }
 }
 
+#[tactic(auto, using(crate::proofs::ReadLaws::signs))]
 pub fn integer_sign(text: &[u8], token: Token) -> IntegerSign
     ensures { ReadsSign text.now token result }
 {
