@@ -1,6 +1,6 @@
 -- The number that digits are, a byte at a time, and when it is greater than a limit. Assumes nothing.
 use Prim.Native.Nat.{ℕ, ◌+◌, ◌*◌, ◌/◌, ◌%◌, ◌≤◌, ◌<◌}
-use native.Mathlib.Nat.{le-mul_of_pos_right}
+use native.Mathlib.Nat.{le-mul_of_pos_right, le-div_iff_mul-le, div-lt_iff_lt-mul}
 use native.Mathlib.Omega.{arith}
 use mathlib.Core.Path.{◌≡◌, refl}
 use mathlib.Core.Bool.{Bool, true, false}
@@ -17,6 +17,14 @@ use Rattle.lex_numbers.proofs.SliceLaws.{at_byte, at_end_empty}
 pub radix_some : (hex : Bool) → 0 < radix hex
 radix_some false = omega arith
 radix_some true = omega arith
+
+-- whether a number has room for one more digit
+module _ {n limit r : ℕ} (h : 0 < r) where
+  pub room : n ≤ limit / r → n * r ≤ limit
+  room k = (le-div_iff_mul-le h).0 k
+
+  pub no_room : limit / r < n → limit < n * r
+  no_room k = (div-lt_iff_lt-mul h).0 k
 
 -- more digits make no number less
 amount_grows : (r n : ℕ) (s : List ℕ) → 0 < r → n ≤ amount r n s
@@ -47,6 +55,11 @@ module _ (r n : ℕ) (text : List ℕ) (i end : ℕ) where
         → n * r + d ≤ amount r n (slice i end text)
     amount_least {d} h e q = omega (arith, amount_on e q, amount_grows r (n * r + d) (slice (i + 1) end text) h)
 
+    pub amount_more : 0 < r → (get_or text i 0 ≡ byte "_" → ⊥) → n * r ≤ amount r n (slice i end text)
+    amount_more h e = omega (arith, amount_least h e refl)
+
   pub amount_end : end ≤ i → i ≤ end → amount r n (slice i end text) ≡ n
   unfolding amount
   amount_end h k = rw (at_end_empty text i end (omega arith))
+
+pub ruleset amounts = (radix_some, room, no_room, amount_off, amount_on, amount_least, amount_more, amount_end)

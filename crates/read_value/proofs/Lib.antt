@@ -1,3 +1,3 @@
-mod AmountLaws
-mod WordLaws
-mod ReadLaws
+pub mod AmountLaws
+pub mod WordLaws
+pub mod ReadLaws

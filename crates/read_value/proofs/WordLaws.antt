@@ -9,11 +9,11 @@ use lib.Seq.{slice}
 use Rattle.wat.specs.declared.Sign.{Sign}
 use Rattle.wat.specs.declared.Sign.TheVariants.{Unsigned, Plus, Minus}
 use Rattle.wat_values.specs.declared.IntegerValue.TheVariants as value
-use Rattle.wat.specs.Numbers.{prefix, IsInteger}
+use Rattle.wat.specs.Numbers.{prefix, IsInteger, IsFloat}
 use Rattle.wat_values.specs.Values.{Split}
 use Rattle.wat_values.specs.Integers.{radix, Num, Word, IntegerWord, Worded}
 use Rattle.wat_values.specs.IntegerModel.{amount}
-use Rattle.wat_values.proofs.SomeValue.{integer_split}
+use Rattle.wat_values.proofs.SomeValue.{integer_split, integer_float}
 use Rattle.wat_values.proofs.IntegerLaws.{num_some, literal_one}
 use Rattle.read_parts.specs.Handing.{At, Leaves}
 use Rattle.read_value.specs.Amounts.{greatest, negated, word_of}
@@ -49,6 +49,11 @@ module _ {N : ℕ} (max : ℕ) (ones : 2 ^ N ≡ max + 1) where
   word_made Minus (suc n) h = Word.minus {n = suc n} {v = max - n} (omega arith) (omega (arith, half N max ones)) (omega arith)
 
 -- ---- a literal
+
+-- a literal of an integer is one of a float too, as its digits are read
+pub also_float : {sign : Sign} {hex : Bool} {text : List ℕ} {at end : ℕ} → At (IsInteger sign hex) text at end
+    → At (IsFloat hex) text at end
+also_float t = record { order = t.order; fits = t.fits; is = integer_float t.is }
 
 -- its digits are what the prefix leaves
 pub digits_left : {sign : Sign} {hex : Bool} {text : List ℕ} {at end from : ℕ} → At (IsInteger sign hex) text at end

@@ -1,5 +1,7 @@
 // The value of an integer by the standard: the word of 32 or 64 bits that its literal is.
 
+#![tactic(auto)]
+
 ghost use Rattle.std.specs.Prelude.{◌≡◌, ℕ, ◌+◌, ◌^◌, ◌≤◌, length};
 ghost use Rattle.std.proofs.Math.Seq.{slice};
 ghost use Rattle.wat.specs.Numbers.{IsInteger};
@@ -27,6 +29,7 @@ pub fn integer_64(text: &[u8], token: Token) -> IntegerValue
 }
 
 // The word of as many bits as `max`, all ones, has.
+#[tactic(auto, using(crate::proofs::ReadLaws::integers))]
 fn integer_word(text: &[u8], token: Token, max: u64) -> IntegerValue
     ensures { (N : ℕ) → 2 ^ N ≡ max + 1 → ReadsWord N text.now token result }
 {
@@ -46,6 +49,7 @@ fn integer_word(text: &[u8], token: Token, max: u64) -> IntegerValue
 }
 
 // The word of the literal from `at` to `end`.
+#[tactic(auto, using(crate::proofs::WordLaws::also_float))]
 fn word_at(text: &[u8], at: usize, end: usize, kind: IntegerKind, max: u64) -> IntegerValue
     requires { At (IsInteger kind.sign kind.hex) text.now at end }
     ensures { (N : ℕ) → 2 ^ N ≡ max + 1 → Worded N (slice at end text.now) result }
@@ -71,6 +75,7 @@ fn greatest(sign: Sign, max: u64) -> u64
 }
 
 // The word of a number with its sign, which is no greater than that.
+#[tactic(auto, using(crate::proofs::WordLaws::negated_some), unfolding(crate::specs::Amounts::negated))]
 fn word_of(sign: Sign, n: u64, max: u64) -> u64
     requires { n ≤ greatest sign max }
     ensures { result ≡ word_of sign n max }
@@ -88,13 +93,14 @@ fn word_of(sign: Sign, n: u64, max: u64) -> u64
 }
 
 // The number that digits are, if it is no greater than a limit.
-#[derive(Drop)]
+#[derive(Clone, Copy)]
 pub enum Amount {
     TooGreat,
     Is(u64),
 }
 
 // The number of the digits from `from` to `end`, underscores passed over.
+#[tactic(auto, using(crate::proofs::AmountLaws::amounts))]
 fn number(text: &[u8], from: usize, end: usize, hex: bool, limit: u64) -> Amount
     requires { (from ≤ end) × (end ≤ length text.now) }
     ensures { Amounts limit (amount (radix hex) 0 (slice from end text.now)) result }
