@@ -13,7 +13,9 @@ use Rattle.wat.specs.declared.Answer.TheVariants as answer
 use Rattle.wat.specs.{Lexing.Lexed, Calls.Stands, Division.Piece, Division.Walked}
 use Rattle.wat.proofs.Basics.{differ}
 use Rattle.wat.proofs.Unique.{lexed_one}
-use Rattle.wat_laws.proofs.Walks.{walked_start, walked_one, walked_then, walked_more}
+use Rattle.wat_laws.proofs.Walks.{walked_start, walked_one, walked_then, walked_more, stands_on}
+use Rattle.wat_laws.proofs.Divisions.{token_size}
+use Rattle.lex_calls.proofs.CallLaws.{fault_fits}
 use Rattle.wat_forms.specs.declared.Folded.{Folded}
 use Rattle.wat_forms.specs.declared.Folded.TheVariants as folded
 use Rattle.wat_forms.specs.Forms.{Opens, Closes, Forms, Form, Inside, Begun, deepest, Halts, Folds}
@@ -180,3 +182,12 @@ module _ {σ : Settings} {text : List ℕ} {pos : ℕ} (s : Stands text pos) whe
       go (InnerFolds.fault w i x) = Folds.walks s (opening_walked s l w) (Halts.fault (Begun.begun Opens.opens i) x)
       go (InnerFolds.too_deep w i x) = Folds.walks s (opening_walked s l w) (Halts.too_deep (Begun.begun Opens.opens i) x)
       go (InnerFolds.left_open w i q) = Folds.walks s (opening_walked s l w) (Halts.left_open (Begun.begun Opens.opens i) q)
+
+-- what `inner`, `fold_at` and `fold` answer
+pub ruleset inners =
+    (passed_none, end_open, fault_open, closing_past, other_passed, opening_deep, form_passed, inner_refused,
+    past_closed, closed_within, stands_on, token_size, fault_fits)
+
+pub ruleset folding = (folds_other, folds_end, folds_fault, folds_form, stands_on)
+
+pub ruleset refusals = (Folds.rejected)

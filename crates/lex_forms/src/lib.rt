@@ -1,5 +1,7 @@
 // The call `fold`: from the opening parenthesis of a form to the position past its closing one.
 
+#![tactic(auto)]
+
 ghost use Rattle.std.specs.Prelude.{◌≡◌};
 ghost use Rattle.wat.specs.declared.Refusal.TheVariants.{NotThatKind};
 ghost use Rattle.wat.specs.Calls.{Stands};
@@ -13,6 +15,7 @@ use wat::{Answer, Refusal, Settings, TokenKind};
 use wat_forms::Folded;
 
 // The position past the form that begins at a position.
+#[tactic(auto, using(crate::proofs::FormSteps::refusals))]
 pub fn fold(text: &[u8], settings: Settings, pos: usize) -> Folded
     ensures { Folds settings text.now pos result }
 {
@@ -23,6 +26,7 @@ pub fn fold(text: &[u8], settings: Settings, pos: usize) -> Folded
 }
 
 // The same at a position that stands.
+#[tactic(auto, using(crate::proofs::FormSteps::folding))]
 fn fold_at(text: &[u8], settings: Settings, pos: usize) -> Folded
     requires { Stands text.now pos }
     ensures { Folds settings text.now pos result }
@@ -51,6 +55,7 @@ fn no_form() -> Folded
 // The position past the form in which a place stands, if nothing refuses it before. In it `left` levels more may be
 // opened. Each form in it is passed by a call of the function itself, and reading goes on behind it, so that no token is
 // lexed twice.
+#[tactic(auto, using(crate::proofs::FormSteps::inners))]
 fn inner(text: &[u8], start: usize, left: usize, settings: Settings, t: &[u8; 256]) -> Folded
     requires stands { Stands text.now start }
     requires classes { Classes t.now }

@@ -1,0 +1,13 @@
+use Rattle.std.proofs.Common.{◌-◌, length}
+use Rattle.lex_forms.proofs.FormSteps.{Passed}
+use Rattle.lex_forms.proofs.+inner.Given as goal
+
+abbrev pub decreases-inner : goal.decreases-inner
+decreases-inner l = l.left
+
+-- up to here stand forms and other tokens
+abbrev pub invariant-loop-fault : goal.invariant-loop-fault
+invariant-loop-fault l = Passed l.settings l.text l.start l.left l.at
+
+abbrev pub decreases-loop-fault : goal.decreases-loop-fault
+decreases-loop-fault l = length l.text - l.at
