@@ -1,5 +1,5 @@
 -- The output as it grows by the line of a token at a time, and that a text has one output. Assumes nothing.
-use Prim.Native.Nat.{ℕ, ◌+◌, ◌*◌, ◌≤◌, ◌<◌}
+use Prim.Native.Nat.{ℕ, ◌+◌, ◌≤◌, ◌<◌}
 use mathlib.Core.Path.{◌≡◌, refl, sym, ap, ◌∙◌, subst}
 use mathlib.Core.List.{List, [], ◌∷◌, ◌++◌, append_assoc, append-nil}
 use native.Mathlib.Omega.{arith}
@@ -10,14 +10,16 @@ use Rattle.wat.specs.{Bytes.bytes, Settings.plain, Cases.number, Calls.Stands, C
 use Rattle.wat.specs.Division.{Piece, lengths, Divided, Walked}
 use Rattle.wat.proofs.Basics.{differ}
 use Rattle.wat.proofs.Unique.{lexed_one}
-use Rattle.wat_laws.proofs.Divisions.{divided_count, ended_nil, ended_fault, ended_one}
+use Rattle.wat_laws.proofs.Divisions.{token_size, divided_count, ended_nil, ended_fault, ended_one}
 use Rattle.wat_laws.proofs.Walks.{walked_start, walked_more, walked_end}
+use Rattle.lex_calls.proofs.CallLaws.{token_fits, fault_fits}
 use Rattle.wat_laws.proofs.OneCall.{rejected_one, stands_or_rejected}
 use Rattle.buffers.specs.Writing.{Added}
 use Rattle.buffers.proofs.PutLaws.{put_front}
 use Rattle.tokens_lines.specs.Lines.{header, line, lines, last_line}
 use Rattle.tokens_lines.specs.Room.{longest_line}
-use Rattle.tokens_lines.proofs.WritingLaws.{lines_more, lines_short}
+use Rattle.buffers.proofs.AddedLaws.{added_length}
+use Rattle.tokens_lines.proofs.WritingLaws.{added_counts, lines_more, lines_short}
 use Rattle.tokens_output.specs.Front.{Front, room}
 use Rattle.tokens_output.specs.Output.{Output, longest}
 
@@ -163,3 +165,8 @@ output_one (Output.fault h s d l) (Output.fault i s' d' l') =
     let x = z.0 in
     let y = z.1 in
     cc
+
+-- what `render_from` and `render` print
+pub ruleset growing = (reached_start, reached_more, token_size, token_fits, fault_fits, added_length)
+
+pub ruleset printed = (front_start, output_long, added_counts)

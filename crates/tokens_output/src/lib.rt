@@ -1,4 +1,7 @@
 // What `wat-tokens` prints of a text. specs/Output.antt says it over wat's definitions, and `render` makes just that.
+
+#![tactic(auto)]
+
 ghost use Rattle.std.specs.Prelude.{◌≤◌, length, take};
 ghost use Rattle.wat.specs.Calls.{Stands};
 ghost use Rattle.io.specs.Counts.{IsPrefixLen};
@@ -16,6 +19,7 @@ pub const LONGEST: usize = 32_768;
 pub const ROOM: usize = tokens_lines::LONGEST_LINE * (LONGEST + 2);
 
 // The lines of a text that can be read, behind the header, and the last line: one walk over its tokens.
+#[tactic(auto, using(crate::proofs::OutputLaws::growing))]
 fn render_from(text: &[u8], out: &mut [u8], from: usize) -> usize
     requires { Stands text.now 0 × (length text.now ≤ longest)
         × (room ≤ length out.old) × Front out.old header from }
@@ -44,6 +48,7 @@ fn render_from(text: &[u8], out: &mut [u8], from: usize) -> usize
 }
 
 // What is printed of a text, at the front of the buffer; returns its length.
+#[tactic(auto, using(crate::proofs::OutputLaws::printed))]
 pub fn render(text: &[u8], out: &mut [u8; ROOM]) -> usize
     ensures { Output text.now (take result out.new) × IsPrefixLen result out.new }
 {
