@@ -1,5 +1,8 @@
 // The Rust's `Lexer`, which `thallusweb` passes on: a struct of the text and the settings, with thin methods over the
 // calls on plain parameters.
+
+#![tactic(auto)]
+
 ghost use Rattle.std.specs.Prelude.{◌≡◌};
 ghost use denote.Ref.{at_last};
 ghost use Rattle.wat.specs.Calls.{most, Parses, Annotates};
@@ -12,7 +15,7 @@ use wat::{Found, Listed, Settings, Token};
 use wat_forms::Folded;
 
 // A text of any bytes, which each call checks, and the settings by which it is read.
-#[derive(Drop)]
+#[derive(Clone, Copy)]
 pub struct Lexer<'a> {
     pub text: &'a [u8],
     pub settings: Settings,

@@ -1,3 +1,0 @@
-mod StructLaws
-mod LookLaws
-mod SetLaws
