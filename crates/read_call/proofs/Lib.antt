@@ -1,3 +1,3 @@
-mod NumberedLaws
+pub mod NumberedLaws
 pub mod NowhereLaws
 pub mod OneReader

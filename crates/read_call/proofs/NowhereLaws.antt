@@ -46,7 +46,7 @@ module _ {text : List ℕ} {token : Token} (none : token.len ≡ 0) where
   name_nowhere P (ReadsName.no_name (Read.other_kind t n)) f = absurd (not_there t)
   name_nowhere P (ReadsName.no_name (Read.reads t r h)) f = absurd (not_there t)
   name_nowhere P (ReadsName.in_text s (Read.reads t r h)) f = absurd (not_there t)
-  name_nowhere P (ReadsName.in_Buffer s (Read.reads t r h)) f = absurd (not_there t)
+  name_nowhere P (ReadsName.in_buffer s (Read.reads t r h)) f = absurd (not_there t)
 
   pub sign_nowhere : {s : IntegerSign} (P : IntegerSign → Type 0) → ReadsSign text token s
       → ((r : Refusal) (p : ℕ) → Nowhere text token.offset r p → P (integer.Refused r p)) → P s

@@ -8,6 +8,7 @@ use Rattle.wat.specs.declared.{Token.Token, Refusal.Refusal}
 use Rattle.wat_values.specs.declared.Reading.{Reading}
 use Rattle.wat.specs.declared.Refusal.TheVariants.{NotThatKind}
 use Rattle.wat_values.specs.declared.Reading.TheVariants as reading
+use Rattle.wat_values.specs.declared.FloatPart.TheVariants as the
 use Rattle.wat_values.specs.Values.{Reader, Takes, Reads}
 use Rattle.wat_values.specs.Reading.{no_place, Handed, Read}
 use Rattle.read_token.specs.declared.TokenCheck.{TokenCheck}
@@ -23,9 +24,32 @@ src_any buffer (Read.other_kind t n) = absurd (n Takes.any)
 src_any buffer (Read.reads t Reads.itself (Handed.too_short h)) = absurd (omega arith)
 src_any buffer (Read.reads t Reads.itself (Handed.fits h)) = Read.reads t Reads.itself (Handed.fits (omega arith))
 
-pub by_number : {n : ℕ} {text buffer b : List ℕ} {token : Token} {reader : Reader} {a : Reading} (m : ℕ) → n ≡ m
-    → nth readers m ≡ some reader → Read reader text token buffer a b → ReadBy n text token buffer a b
-by_number m e q r = ReadBy.by (ap (nth readers) e ∙ q) r
+module _ {n : ℕ} {text buffer : List ℕ} {token : Token} {a : Reading} {b : List ℕ} where
+  by_number : {reader : Reader} (m : ℕ) → n ≡ m → nth readers m ≡ some reader → Read reader text token buffer a b
+      → ReadBy n text token buffer a b
+  by_number m e q r = ReadBy.by (ap (nth readers) e ∙ q) r
+
+  pub by_string : n ≡ 1 → Read Reader.string text token buffer a b → ReadBy n text token buffer a b
+  by_string e r = by_number 1 e refl r
+
+  pub by_digits : n ≡ 4 → Read Reader.digits text token buffer a b → ReadBy n text token buffer a b
+  by_digits e r = by_number 4 e refl r
+
+  pub by_integral : n ≡ 5 → Read (Reader.float the.Integral) text token buffer a b → ReadBy n text token buffer a b
+  by_integral e r = by_number 5 e refl r
+
+  pub by_fraction : n ≡ 6 → Read (Reader.float the.Fraction) text token buffer a b → ReadBy n text token buffer a b
+  by_fraction e r = by_number 6 e refl r
+
+  pub by_exponent : n ≡ 7 → Read (Reader.float the.Exponent) text token buffer a b → ReadBy n text token buffer a b
+  by_exponent e r = by_number 7 e refl r
+
+  pub by_payload : n ≡ 8 → Read (Reader.float the.Payload) text token buffer a b → ReadBy n text token buffer a b
+  by_payload e r = by_number 8 e refl r
+
+pub by_source : {n : ℕ} {text buffer b : List ℕ} {token : Token} {a : Reading} → n ≡ 0 → Read Reader.src text token [] a b
+    → ReadBy n text token buffer a buffer
+by_source {buffer = buffer} e r = by_number 0 e refl (src_any buffer r)
 
 -- P, and n is none of the numbers, from m on, that these readers have
 abbrev Apart : List (Option Reader) → ℕ → ℕ → Type 0 → Type 0
@@ -56,3 +80,15 @@ module _
 
   pub by_nobody_missing : {r : Refusal} {p : ℕ} → m ≡ presence.Refused r p → ReadBy n text token buffer (reading.Refused r p) buffer
   by_nobody_missing e = ReadBy.missing (nobody n a) (subst (Here text token) e h)
+
+pub ruleset readers_by = (
+  by_source,
+  by_string,
+  by_digits,
+  by_integral,
+  by_fraction,
+  by_exponent,
+  by_payload,
+  by_nobody,
+  by_nobody_missing,
+)

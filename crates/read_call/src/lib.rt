@@ -1,5 +1,8 @@
 // The readers by their numbers. 2 and 3 were those of ids and annotations, which `read_text::name` reads now; no other
 // reader gets them.
+
+#![tactic(auto)]
+
 ghost use Rattle.read_call.specs.ByNumber.{ReadBy};
 
 use read_token::TokenCheck;
@@ -7,6 +10,7 @@ use wat::{Refusal, Token};
 use wat_values::{FloatPart, NO_PLACE, Reading};
 
 // The first call of the reader that has the number; 31 for a number that no reader has.
+#[tactic(auto, using(crate::proofs::NumberedLaws::readers_by))]
 pub fn read(text: &[u8], reader: u64, token: Token, buffer: &mut [u8]) -> Reading
     ensures { ReadBy reader text.now token buffer.old result buffer.new }
 {
