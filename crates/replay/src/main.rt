@@ -1,7 +1,13 @@
 // Answers of the Rust, recorded by `oracle record` (tests/oracle), replayed against Thallusweb: how many agree, by
 // type of row. `replay_rows` describes the rows of the file `answers`.
-ghost use Rattle.std.specs.Prelude.{◌≡◌, ◌<◌, length};
+#![tactic(auto)]
 
+ghost use Rattle.std.specs.Prelude.{◌≡◌, ◌≢◌, ◌<◌, length, IfOk, IfErr};
+ghost use Rattle.std.specs.IoError.{error_kind};
+
+use std::fs::File;
+use std::io;
+use std::io::{ErrorKind, Read};
 use wat::{Settings, Token};
 
 // The settings of a row.
@@ -161,36 +167,36 @@ fn replayed(row: &[u8]) -> usize
     13
 }
 
-fn next(fd: i32) -> usize
-    ensures { result < 14 }
+// What the next row says. Less than a row is no row.
+fn next<R: Read>(input: &mut R) -> io::Result<usize>
+    ensures verdict { IfOk result (λ r. r < 14) }
+    ensures end_is_no_error { IfErr result (λ e. error_kind e ≢ ErrorKind.UnexpectedEof) }
 {
     let mut row = [0u8; 152];
-    let n = io::read_full(fd, &mut row);
-    replayed(&row[..n])
+    match input.read_exact(&mut row) {
+        Ok(()) => Ok(replayed(&row)),
+        Err(e) if e.kind() == ErrorKind::UnexpectedEof => Ok(0),
+        Err(e) => Err(e),
+    }
 }
 
 // How many rows were of each type and verdict, by `replayed`; a proved loop has to end, so it counts its turns.
-fn replay_all(fd: i32) -> [u64; 14] {
+fn replay_all<R: Read>(input: &mut R) -> io::Result<[u64; 14]> {
     let mut counts = [0u64; 14];
     let mut turns: u32 = 1_000_000;
     while 0 < turns {
-        let r = next(fd);
+        let r = next(input)?;
         if r == 0 {
-            return counts;
+            return Ok(counts);
         }
-        counts[r] = std::num::wrapping_add_u64(counts[r], 1);
+        counts[r] = counts[r].wrapping_add(1);
         turns -= 1;
     }
-    counts
+    Ok(counts)
 }
 
-fn main() {
-    let fd = os::open_read(b"answers");
-    if fd < 0 {
-        os::fail(b"answers");
-        return;
-    }
-    let c = replay_all(fd);
-    libc::close(fd);
-    replay_rows::report(&c);
+fn main(rt: HostRuntime) -> io::Result<()> {
+    let mut file = File::open(&rt, "answers")?;
+    let counts = replay_all(&mut file)?;
+    replay_rows::report(&rt, &counts)
 }
