@@ -104,7 +104,7 @@ module _ {text buffer w : List ℕ} where
   pub part_text : {p : List ℕ} → get_or w 0 0 ≡ 1 → PartWords text buffer w p
       → Second text buffer (reading.Text (get_or w 1 0) (get_or w 2 0)) (taken text p)
   part_text e (PartWords.in_text f h) = Second.in_text h
-  part_text e (PartWords.in_Buffer f h) = absurd (omega arith)
+  part_text e (PartWords.in_buffer f h) = absurd (omega arith)
   part_text e (PartWords.none t b) =
       Second.none (λ s l (q : reading.Text (get_or w 1 0) (get_or w 2 0) ≡ reading.Text s l).
       let i : get_or w 1 0 ≡ s = cc in let j : get_or w 2 0 ≡ l = cc in omega (arith, t e))
@@ -113,7 +113,7 @@ module _ {text buffer w : List ℕ} where
   pub part_buffer : {p : List ℕ} → get_or w 0 0 ≡ 3 → PartWords text buffer w p
       → Second text buffer (reading.Buffer (get_or w 1 0) (get_or w 2 0)) (taken buffer p)
   part_buffer e (PartWords.in_text f h) = absurd (omega arith)
-  part_buffer e (PartWords.in_Buffer f h) = Second.in_Buffer h
+  part_buffer e (PartWords.in_buffer f h) = Second.in_buffer h
   part_buffer e (PartWords.none t b) =
       Second.none (λ s l (q : reading.Buffer (get_or w 1 0) (get_or w 2 0) ≡ reading.Text s l). differ (cc))
       (λ s l (q : reading.Buffer (get_or w 1 0) (get_or w 2 0) ≡ reading.Buffer s l).

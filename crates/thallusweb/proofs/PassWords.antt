@@ -2,13 +2,12 @@
 -- a list decode to. Assumes nothing.
 use Prim.Native.Nat.{ℕ, ◌≤◌, ◌<◌}
 use mathlib.Core.Path.{◌≡◌, refl, sym, ap, ◌∙◌, subst}
-use mathlib.Core.Logic.{◌↔◌}
 use mathlib.Core.List.{List, [], ◌∷◌, ◌++◌}
 use mathlib.Core.Option.{some}
 use native.Mathlib.Omega.{arith}
 use lib.ListN.{length, get_or}
 use Rattle.wat.specs.declared.{TokenKind.TokenKind, LexError.LexError, Settings.Settings, Token.Token, Refusal.Refusal}
-use Rattle.wat.specs.declared.{Refusal.TheVariants.Lexical, Stop.Stop, Listed.Listed}
+use Rattle.wat.specs.declared.{Refusal.TheVariants.Lexical, Stop.Stop}
 use Rattle.wat.specs.declared.Stop.TheVariants as stop
 use Rattle.wat.specs.declared.TokenKind.TheVariants as kind
 use Rattle.wat_values.specs.declared.{Reading.Reading, NameKind.NameKind, NameReading.NameReading}
@@ -17,13 +16,13 @@ use Rattle.wat_values.specs.declared.IntegerSign.TheVariants as integer
 use Rattle.wat_values.specs.declared.FloatSign.TheVariants as float
 use Rattle.wat.specs.Cases.{kind_number}
 use Rattle.wat.specs.Numbers.{negative}
-use Rattle.wat.specs.Division.{lengths, Listing}
+use Rattle.wat.specs.Division.{lengths}
 use Rattle.wat_laws.specs.Records.{kind_at, token_words}
 use Rattle.wat_values.specs.Values.{Reader, Sigil, Takes, Value, Reads}
 use Rattle.wat_values.specs.Names.{Misnamed}
 use Rattle.wat_values.specs.Reading.{own, found, reading_of, Whose, Second}
 use Rattle.wat_values.specs.Integers.{Worded}
-use Rattle.wat_values.specs.Readable.{bytes_of, filled, Readable, NameRead, SignOf, HasSign, Signs, SignRead, WordRead, Passes}
+use Rattle.wat_values.specs.Readable.{filled, Readable, NameRead, SignOf, HasSign, Signs, SignRead, WordRead, Passes}
 use Rattle.c_words.specs.Words.{refused_words, stop_words, listed_words}
 use Rattle.c_read_words.specs.Words.{reading_words, kind_word, name_words}
 use Rattle.c_spots.specs.Spots.{PartWords}
@@ -46,7 +45,7 @@ use Rattle.thallusweb.proofs.OneWords.{float_sign_words_one}
 second_words : {text buffer v : List ℕ} (a : Reading) → Second text buffer a v
     → (p : List ℕ) × PartWords text buffer (reading_words a) p × PartBytes text buffer p v
 second_words a (Second.in_text h) = (_, PartWords.in_text refl h, PartBytes.of_text)
-second_words a (Second.in_Buffer h) = (_, PartWords.in_Buffer refl h, PartBytes.of_buffer)
+second_words a (Second.in_buffer h) = (_, PartWords.in_buffer refl h, PartBytes.of_buffer)
 second_words reading.Absent (Second.none f g) = (
   _,
   PartWords.none (λ (e : ◌≡◌ {A = ℕ} 0 1). absurd (omega arith))
@@ -81,7 +80,7 @@ named_said : {n : NameKind} {k : TokenKind} {x : ℕ} {a : NameReading} → Sigi
     → name_words a ≡ reading_words (reading_of a) ++ (kind_for k (reading_of a) ∷ [])
 named_said s Whose.no_name = refl
 named_said s (Whose.in_text {start = i} {len = l}) = ap (λ (o : ℕ). 1 ∷ i ∷ l ∷ 0 ∷ 0 ∷ o ∷ []) (kind_said s)
-named_said s (Whose.in_Buffer {start = i} {len = l}) = ap (λ (o : ℕ). 3 ∷ i ∷ l ∷ 0 ∷ 0 ∷ o ∷ []) (kind_said s)
+named_said s (Whose.in_buffer {start = i} {len = l}) = ap (λ (o : ℕ). 3 ∷ i ∷ l ∷ 0 ∷ 0 ∷ o ∷ []) (kind_said s)
 
 -- ---- a token by its words
 

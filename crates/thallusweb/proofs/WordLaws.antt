@@ -5,7 +5,7 @@ use mathlib.Core.List.{List}
 use lib.ListN.{get_or}
 use Rattle.wat.specs.declared.{Checked.Checked, Found.Found, Parsed.Parsed, Listed.Listed, Token.Token, Refusal.Refusal}
 use Rattle.wat_values.specs.declared.{Reading.Reading, NameReading.NameReading, IntegerSign.IntegerSign, IntegerValue.IntegerValue}
-use Rattle.wat_values.specs.declared.{FloatSign.FloatSign, NameReading.TheVariants.Refused}
+use Rattle.wat_values.specs.declared.{FloatSign.FloatSign}
 use Rattle.wat_forms.specs.declared.Folded.{Folded}
 use Rattle.messages.specs.declared.Told.{Told}
 use Rattle.wat.specs.declared.Settings.{Settings}
@@ -16,9 +16,9 @@ use Rattle.wat_forms.specs.Forms.{Folds}
 use Rattle.wat_values.specs.Reading.{ReadsName, ReadsSign, ReadsNegative}
 use Rattle.wat_values.specs.Integers.{ReadsWord}
 use Rattle.messages.specs.ByNumber.{TellsBy}
-use Rattle.c_words.specs.Words.{checked_words, refused_words, found_words, parsed_words, listed_words, folded_words}
+use Rattle.c_words.specs.Words.{checked_words, found_words, parsed_words, listed_words, folded_words}
 use Rattle.c_read_words.specs.Words.{reading_words, name_words, integer_sign_words, integer_words, float_sign_words, message_words}
-use Rattle.c_asked.specs.Asked.{settings_of, Denotes, DenotesNone, Empty, Asks}
+use Rattle.c_asked.specs.Asked.{settings_of, Denotes, DenotesNone, Empty}
 use Rattle.read_call.specs.ByNumber.{ReadBy, Nowhere}
 use Rattle.read_call.proofs.NowhereLaws.{read_nowhere, name_nowhere, sign_nowhere, word_nowhere, negative_nowhere}
 use Rattle.thallusweb.specs.Promises.{Utf8Checked, ParsedWords, AnnotatedWords, ListedWords, Nameless, ReadWords}
@@ -59,55 +59,66 @@ module _ {text w : List ℕ} {t : Token} where
   unnamed : {r : Refusal} {p : ℕ} → DenotesNone w → Empty (get_or w 1 0) t → Nowhere text t.offset r p → Nameless text w r p
   unnamed {r} {p} x e y = record { none = x; at = subst (λ (o : ℕ). Nowhere text o r p) e.stands y }
 
-  -- a call's words are those of its answer where a token is named, and those of a refusal, of which Q is so, else
-  said_words : (Q : Refusal → ℕ → Type 0) (P : List ℕ → Type 0) (u : List ℕ) {v : List ℕ} → v ≡ u → Asks w t
-      → (Denotes w t → P u) → (t.len ≡ 0 → ((r : Refusal) (p : ℕ) → Nowhere text t.offset r p → Q r p) → P u)
-      → ((r : Refusal) (p : ℕ) → Nameless text w r p → Q r p) → P v
-  said_words Q P u z (Asks.one q) read none nameless = subst P (sym z) (read q)
-  said_words Q P u z (Asks.none x e) read none nameless = subst P (sym z) (none e.long (λ r p y. nameless r p (unnamed x e y)))
+  -- a call's words are those of its answer where a token is named, and those of a refusal else
+  module _ {n : ℕ} {buffer b v : List ℕ} {a : Reading} (r : ReadBy n text t buffer a b) (z : v ≡ reading_words a) where
+    pub read_named : Denotes w t → ReadWords n text w buffer v b
+    read_named q = subst (λ (u : List ℕ). ReadWords n text w buffer u b) (sym z) (ReadWords.read q r)
 
-  pub read_words : {n : ℕ} {buffer b v : List ℕ} (a : Reading) → Asks w t → ReadBy n text t buffer a b → v ≡ reading_words a
-      → ReadWords n text w buffer v b
-  read_words {n} {buffer} {b} a k r z =
-      let P : List ℕ → List ℕ → Type 0 = ReadWords n text w buffer in
-      said_words (λ q p. P (refused_words q p) buffer) (λ u. P u b) (reading_words a) z k (λ q. ReadWords.read q r)
-      (λ n f. read_nowhere n (λ (a : Reading) (c : List ℕ). P (reading_words a) c) r f)
-      (λ q p x. ReadWords.nameless x)
+    pub read_unnamed : DenotesNone w → Empty (get_or w 1 0) t → ReadWords n text w buffer v b
+    read_unnamed x e =
+        subst (λ (u : List ℕ). ReadWords n text w buffer u b) (sym z)
+        (read_nowhere e.long (λ (c : Reading) (d : List ℕ). ReadWords n text w buffer (reading_words c) d) r
+        (λ q p y. ReadWords.nameless (unnamed x e y)))
 
-  pub name_words_lem : {buffer b v : List ℕ} (a : NameReading) → Asks w t → ReadsName text t buffer a b → v ≡ name_words a
-      → NameWords text w buffer v b
-  name_words_lem {buffer} {b} a k r z =
-      let P : List ℕ → List ℕ → Type 0 = NameWords text w buffer in
-      said_words (λ q p. P (name_words (Refused q p)) buffer) (λ u. P u b) (name_words a) z k (λ q. NameWords.read q r)
-      (λ n f. name_nowhere n (λ (a : NameReading) (c : List ℕ). P (name_words a) c) r f)
-      (λ q p x. NameWords.nameless x)
+  module _ {buffer b v : List ℕ} {a : NameReading} (r : ReadsName text t buffer a b) (z : v ≡ name_words a) where
+    pub name_named : Denotes w t → NameWords text w buffer v b
+    name_named q = subst (λ (u : List ℕ). NameWords text w buffer u b) (sym z) (NameWords.read q r)
 
-  -- a call that takes no buffer
-  answer_words : (P : List ℕ → Type 0) (u : List ℕ) {v : List ℕ} → v ≡ u → Asks w t → (Denotes w t → P u)
-      → (t.len ≡ 0 → ((r : Refusal) (p : ℕ) → Nowhere text t.offset r p → P (refused_words r p)) → P u)
-      → ((r : Refusal) (p : ℕ) → Nameless text w r p → P (refused_words r p)) → P v
-  answer_words P u z k read none nameless = said_words (λ r p. P (refused_words r p)) P u z k read none nameless
+    pub name_unnamed : DenotesNone w → Empty (get_or w 1 0) t → NameWords text w buffer v b
+    name_unnamed x e =
+        subst (λ (u : List ℕ). NameWords text w buffer u b) (sym z)
+        (name_nowhere e.long (λ (c : NameReading) (d : List ℕ). NameWords text w buffer (name_words c) d) r
+        (λ q p y. NameWords.nameless (unnamed x e y)))
 
-  pub integer_sign_words_lem : {v : List ℕ} (s : IntegerSign) → Asks w t → ReadsSign text t s → v ≡ integer_sign_words s
-      → IntegerSignWords text w v
-  integer_sign_words_lem s k r z =
-      answer_words (IntegerSignWords text w) (integer_sign_words s) z k (λ q. IntegerSignWords.read s q r)
-      (λ n f. sign_nowhere n (λ (a : IntegerSign). IntegerSignWords text w (integer_sign_words a)) r f)
-      (λ q p x. IntegerSignWords.nameless x)
+  module _ {v : List ℕ} {s : IntegerSign} (r : ReadsSign text t s) (z : v ≡ integer_sign_words s) where
+    pub integer_sign_named : Denotes w t → IntegerSignWords text w v
+    integer_sign_named q = subst (IntegerSignWords text w) (sym z) (IntegerSignWords.read s q r)
 
-  pub integer_words_lem : {N : ℕ} {v : List ℕ} (a : IntegerValue) → Asks w t → ReadsWord N text t a → v ≡ integer_words a
-      → IntegerWords N text w v
-  integer_words_lem {N} a k r z =
-      answer_words (IntegerWords N text w) (integer_words a) z k (λ q. IntegerWords.read a q r)
-      (λ n f. word_nowhere n (λ (b : IntegerValue). IntegerWords N text w (integer_words b)) r f)
-      (λ q p x. IntegerWords.nameless x)
+    pub integer_sign_unnamed : DenotesNone w → Empty (get_or w 1 0) t → IntegerSignWords text w v
+    integer_sign_unnamed x e =
+        subst (IntegerSignWords text w) (sym z)
+        (sign_nowhere e.long (λ (c : IntegerSign). IntegerSignWords text w (integer_sign_words c)) r
+        (λ q p y. IntegerSignWords.nameless (unnamed x e y)))
 
-  pub float_sign_words_lem : {v : List ℕ} (s : FloatSign) → Asks w t → ReadsNegative text t s → v ≡ float_sign_words s
-      → FloatSignWords text w v
-  float_sign_words_lem s k r z =
-      answer_words (FloatSignWords text w) (float_sign_words s) z k (λ q. FloatSignWords.read s q r)
-      (λ n f. negative_nowhere n (λ (a : FloatSign). FloatSignWords text w (float_sign_words a)) r f)
-      (λ q p x. FloatSignWords.nameless x)
+  module _ {N : ℕ} {v : List ℕ} {a : IntegerValue} (r : ReadsWord N text t a) (z : v ≡ integer_words a) where
+    pub integer_named : Denotes w t → IntegerWords N text w v
+    integer_named q = subst (IntegerWords N text w) (sym z) (IntegerWords.read a q r)
+
+    pub integer_unnamed : DenotesNone w → Empty (get_or w 1 0) t → IntegerWords N text w v
+    integer_unnamed x e =
+        subst (IntegerWords N text w) (sym z)
+        (word_nowhere e.long (λ (c : IntegerValue). IntegerWords N text w (integer_words c)) r
+        (λ q p y. IntegerWords.nameless (unnamed x e y)))
+
+  module _ {v : List ℕ} {s : FloatSign} (r : ReadsNegative text t s) (z : v ≡ float_sign_words s) where
+    pub float_sign_named : Denotes w t → FloatSignWords text w v
+    float_sign_named q = subst (FloatSignWords text w) (sym z) (FloatSignWords.read s q r)
+
+    pub float_sign_unnamed : DenotesNone w → Empty (get_or w 1 0) t → FloatSignWords text w v
+    float_sign_unnamed x e =
+        subst (FloatSignWords text w) (sym z)
+        (negative_nowhere e.long (λ (c : FloatSign). FloatSignWords text w (float_sign_words c)) r
+        (λ q p y. FloatSignWords.nameless (unnamed x e y)))
+
+pub ruleset reads = (read_named, read_unnamed)
+
+pub ruleset names = (name_named, name_unnamed)
+
+pub ruleset integer_signs = (integer_sign_named, integer_sign_unnamed)
+
+pub ruleset integers = (integer_named, integer_unnamed)
+
+pub ruleset float_signs = (float_sign_named, float_sign_unnamed)
 
 -- ---- messages
 
