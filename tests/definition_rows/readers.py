@@ -114,7 +114,7 @@ def derivation(reader, kind_number, source, said, left):
     if reader == "name":
         return f"Reads.a_name Sigil.{SIGILS[kind_number]} {name(source[1:], said, left)}"
     if kind_name in ("Inf", "Nan"):
-        return f"Reads.of-{kind_name.lower()}"
+        return f"Reads.of_{kind_name.lower()}"
     if kind_name == "NanVal":
         if reader != "float the.Payload":
             return f"Reads.of_payload (evidence.other {reader.split()[1]} refl)"
@@ -129,8 +129,7 @@ def derivation(reader, kind_number, source, said, left):
 def other_kind(reader, kind_term):
     """Why a reader does not take a kind: a proof that `Takes` is empty."""
     if reader == "name":
-        sigil = f"(n : NameKind) (x : ℕ) (s : Sigil n {kind_term} x)"
-        return f"evidence.no_name {{k = {kind_term}}} (λ {sigil}. elim s [ ])"
+        return f"evidence.no_name {{k = {kind_term}}} refl"
     return f"λ (t : Takes (Reader.{reader}) {kind_term}). elim t [ ]"
 
 
@@ -142,7 +141,7 @@ def name_call(kind_number, offset, length, place):
         answer, proof = f"named.Refused {numbers}", "ReadsName.no_name"
     else:
         answer = f"named.{case} whose.{KINDS[kind_number]} {numbers}"
-        proof = f"ReadsName.in-{case.lower()} Sigil.{SIGILS[kind_number]}"
+        proof = f"ReadsName.in_{case.lower()} Sigil.{SIGILS[kind_number]}"
     read = f"Read Reader.name text {token} buffer ({place}) after"
     statement = f"((text buffer after : List ℕ) → {read} → ReadsName text {token} buffer ({answer}) after)"
     return statement, f"λ text buffer after r. {proof} r"

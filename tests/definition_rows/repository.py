@@ -29,7 +29,7 @@ def chunks(items, size):
 
 def types(source):
     """The types that a crate declares, without its functions, which would have to be proved."""
-    items = re.findall(r"^(?:use [^\n]*;|pub (?:enum|struct) .*?^\})\n", source, flags=re.M | re.S)
+    items = re.findall(r"^(?:use [^\n]*;|(?:#\[[^\n]*\]\n)*pub (?:enum|struct) .*?^\})\n", source, flags=re.M | re.S)
     return "// Types alone.\n" + "".join(items)
 
 
@@ -79,11 +79,11 @@ class Tables:
         with tempfile.TemporaryDirectory(prefix="definitions-") as folder:
             self.write_repository(pathlib.Path(folder))
             out = {"stdout": subprocess.PIPE, "stderr": subprocess.STDOUT, "text": True}
-            run = subprocess.run(["rt", "check"], cwd=folder, **out)
+            run = subprocess.run(["rt", "all", "check"], cwd=folder, **out)
         said = re.split(r"^\S+: error: `table-(\d+)`: ", run.stdout, flags=re.M)[1:]
         refused = {int(index): told for index, told in zip(said[::2], said[1::2])}
         # the prover goes on after a refused table, so each crate is proved or has one
-        proved = set(re.findall(r"^rt: (\w+) proved", run.stdout, flags=re.M))
+        proved = set(re.findall(r"^(\w+): ok$", run.stdout, flags=re.M))
         for crate, indices in self.crates.items():
             if crate not in proved and not any(index in refused for index in indices):
                 sys.exit(f"{run.stdout}\ntests/definitions: the prover did not get to all rows")

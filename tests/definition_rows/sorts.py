@@ -17,10 +17,7 @@ PROJECT = pathlib.Path(__file__).resolve().parent.parent.parent
 
 # what every sort of rows imports, and what each does beside what the prover opens for it
 IMPORTS = """\
-use Prim.Native.Nat.{ℕ}
-use mathlib.Core.Path.{◌≡◌, refl}
-use mathlib.Core.Bool.{true, false}
-use mathlib.Core.List.{List, [], ◌∷◌}
+use Rattle.std.specs.Prelude.{ℕ, ◌≡◌, refl, true, false, List, [], ◌∷◌}
 use Rattle.wat.specs.declared.Sign.TheVariants as sign
 use Rattle.wat.specs.declared.FloatKind.TheVariants as float
 use Rattle.wat.specs.declared.TokenKind.TheVariants as kind
@@ -38,17 +35,16 @@ use Rattle.wat.specs.declared.Refusal.TheVariants as refusal
 use Rattle.wat.specs.Cases.{kind_number, error_number, number, list_full}
 """
 MESSAGE_IMPORTS = """\
-use lib.ListN.{replicate}
+use Rattle.std.specs.Prelude.{replicate}
 use Rattle.wat.specs.declared.Refusal.TheVariants as refusal
 use Rattle.messages.specs.declared.Told.TheVariants.{Refused, Written}
 """
-LINE_IMPORTS = "use mathlib.Core.Bool.{Bool}\n"
+LINE_IMPORTS = "use Rattle.std.specs.Prelude.{Bool}\n"
 RECORD_IMPORTS = "use Rattle.wat.specs.Division.{records}\n"
 READER_IMPORTS = """\
 use Rattle.wat.specs.declared.Refusal.TheVariants.{Lexical}
 use Rattle.wat_values.specs.declared.FloatPart.TheVariants as the
 use Rattle.wat_values.specs.declared.Reading.TheVariants as reading
-use Rattle.wat_values.specs.declared.NameKind.{NameKind}
 use Rattle.wat_values.specs.declared.NameKind.TheVariants as whose
 use Rattle.wat_values.specs.declared.NameReading.TheVariants as named
 use Rattle.wat.specs.Numbers.{Digits, Signed, Fraction, Exponent}

@@ -1,6 +1,6 @@
 //! Links the static library that `tests/native-lib` leaves in target/native, and turns include/thallusweb.h into the module
 //! `ours::c`: what is compared is what a C caller is told. Each line of the header has to be one that is understood here, and its
-//! prototypes have to be those of crates/thallusweb.
+//! prototypes have to be those of crates/thallusweb_c.
 
 use std::collections::BTreeSet;
 use std::fmt::Write;
@@ -159,7 +159,7 @@ fn main() {
     println!("cargo:rerun-if-changed={folder}/libthallusweb.a");
     println!("cargo:rustc-link-search=native={folder}");
     println!("cargo:rustc-link-lib=static=thallusweb");
-    let module = module(&read("include/thallusweb.h"), &exported(&read("crates/thallusweb/src/lib.rt")));
+    let module = module(&read("include/thallusweb.h"), &exported(&read("crates/thallusweb_c/src/lib.rt")));
     let out = env::var("OUT_DIR").expect("cargo's OUT_DIR");
     fs::write(format!("{out}/header.rs"), module).expect("a file in OUT_DIR");
 }
