@@ -1,5 +1,5 @@
 -- The place after one byte, by what the byte is. Assumes nothing.
-use Prim.Native.Nat.{ℕ, ◌+◌}
+use Prim.Native.Nat.{ℕ, ◌+◌, ◌≤◌, ◌<◌}
 use native.Mathlib.Omega.{arith}
 use mathlib.Core.Path.{◌≡◌, refl, sym, ap, ◌∙◌}
 use mathlib.Core.Bool.{true, false, ◌&&◌, ◌||◌}
@@ -7,9 +7,9 @@ use borrow.Author.Tests.{ne_eqb}
 use Rattle.place.specs.declared.Place.{Place}
 use Rattle.wat.specs.{Bytes.has, Chars.newline}
 use Rattle.wat_lines.specs.LineEnds.{line_feed, carriage_return, begins}
-use Rattle.place.specs.PlaceModel.{next_column, next_place, kept, step, answer}
+use Rattle.place.specs.PlaceModel.{last, next_column, next_place, kept, step, answer}
 use Rattle.wat.proofs.Basics.{never}
-use Rattle.wat_lines.proofs.LineLaws.{LineByte}
+use Rattle.wat_lines.proofs.LineLaws.{LineByte, line_byte}
 use Rattle.place.proofs.OnePlace.{same_place}
 use Rattle.place.proofs.MoveLaws.{Held, kept_is, kept_not}
 
@@ -47,3 +47,29 @@ module _ (p : Place) where
   column_more (LineByte.other {x} c l) e =
       let z : newline x ≡ false = rw (ne_eqb 0x0A x (λ e. l (sym e)), ne_eqb 0x0D x (λ e. c (sym e))) in
       same_place (rw (ne_eqb x 0x0D c, ne_eqb x 0x0A l, begins) (omega arith)) (rw (z, next_column)) (ne_eqb x 0x0D c)
+
+-- what is answered, by what is asked of the byte and of the place
+module _ (p : Place) (x : ℕ) where
+  pub rest_passed : line_feed x && p.after_cr ≡ true → p.line ≤ last
+      → record { ok = true; place = record { line = p.line; column = 1; after_cr = false } } ≡ answer p (step p x)
+  rest_passed e l = led p x (rests p (line_byte x) e) (omega arith, omega arith)
+
+  module _ (e : line_feed x && p.after_cr ≡ false) (f : line_feed x || carriage_return x ≡ true) where
+    pub end_refused : p.line ≡ last → record { ok = false; place = p } ≡ answer p (step p x)
+    end_refused l = not_led p x (ends p (line_byte x) e f) (λ h. omega arith)
+
+    pub end_passed : p.line < last
+        → record { ok = true; place = record { line = p.line + 1; column = 1; after_cr = carriage_return x } }
+        ≡ answer p (step p x)
+    end_passed l = led p x (ends p (line_byte x) e f) (omega arith, omega arith)
+
+  module _ (e : line_feed x || carriage_return x ≡ false) where
+    pub more_refused : p.column ≡ last → record { ok = false; place = p } ≡ answer p (step p x)
+    more_refused c = not_led p x (column_more p (line_byte x) e) (λ h. omega arith)
+
+    pub more_passed : p.column < last → p.line ≤ last
+        → record { ok = true; place = record { line = p.line; column = p.column + 1; after_cr = false } }
+        ≡ answer p (step p x)
+    more_passed c l = led p x (column_more p (line_byte x) e) (omega arith, omega arith)
+
+pub ruleset passings = (rest_passed, end_refused, end_passed, more_refused, more_passed)

@@ -28,6 +28,7 @@ pub struct Moved {
 const LAST: u32 = Place::LAST;
 
 // Moves the counter over one byte.
+#[tactic(auto, using(crate::proofs::ByteLaws::passings))]
 fn over_byte(p: Place, x: u8) -> Moved
     ensures { result ≡ answer p (step p x) }
 {

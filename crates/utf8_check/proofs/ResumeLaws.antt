@@ -165,6 +165,8 @@ module _ (s : List ℕ) (i : ℕ) (h : Begins (get_or s 0 0) (get_or s 1 0) (get
   pub from_end : get_or s (i + 2) 0 < 0xC0 → get_or s (i + 1) 0 < 0xE0 → get_or s i 0 < 0xF0 → Resumes s (i + 3)
   from_end a b c = goes_on (i + 3) 0 (omega arith) (counted.all a b c)
 
+pub ruleset befores = (from_last, from_second, from_third, from_end)
+
 pub from_start : (s : List ℕ) → Resumes s 0
 unfolding checked
 from_start s = record { within = omega arith; same = refl }

@@ -128,6 +128,7 @@ fn right_to(s: &[u8]) -> usize
 }
 
 // Of the three bytes at a place: where the character starts that is not whole with them, or the place after them.
+#[tactic(auto, using(crate::proofs::ResumeLaws::befores))]
 fn start_before(s: &[u8], i: usize) -> usize
     requires { (i + 3 ≤ length s.now) × Begins (slice_index s.now 0) (slice_index s.now 1) (slice_index s.now 2)
         × Right s.now 0 i }
