@@ -138,6 +138,17 @@ pub ruleset nexts = (next_end, token_onward, next_token, fault_onward, next_faul
 
 pub ruleset parses = (token_fits, fault_fits, Parses.rejected)
 
-pub ruleset signs =
-    (sign_none, sign_some, sign_stands, Annotates.elsewhere, token_fits, fault_fits, same_kind, other_kind,
-    annotation_end, annotation_fault, annotation_token, annotation_other)
+pub ruleset signs = (
+  sign_none,
+  sign_some,
+  sign_stands,
+  Annotates.elsewhere,
+  token_fits,
+  fault_fits,
+  same_kind,
+  other_kind,
+  annotation_end,
+  annotation_fault,
+  annotation_token,
+  annotation_other,
+)

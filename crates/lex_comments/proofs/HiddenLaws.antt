@@ -75,7 +75,8 @@ pub led_sought : (s : List ℕ) (at to r : ℕ) → Sought (byte_at lead) (byte_
 led_sought s at to r q =
     record {
       passed =
-          without_also (byte_at lead) s at r q.passed confusing_at (λ k. unled_hides (get_or s k 0) (get_or s (k + 1) 0) (get_or s (k + 2) 0));
+          without_also (byte_at lead) s at r q.passed confusing_at
+          (λ k. unled_hides (get_or s k 0) (get_or s (k + 1) 0) (get_or s (k + 2) 0));
       stops = q.stops;
     }
 

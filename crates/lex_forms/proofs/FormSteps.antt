@@ -184,9 +184,21 @@ module _ {σ : Settings} {text : List ℕ} {pos : ℕ} (s : Stands text pos) whe
       go (InnerFolds.left_open w i q) = Folds.walks s (opening_walked s l w) (Halts.left_open (Begun.begun Opens.opens i) q)
 
 -- what `inner`, `fold_at` and `fold` answer
-pub ruleset inners =
-    (passed_none, end_open, fault_open, closing_past, other_passed, opening_deep, form_passed, inner_refused,
-    past_closed, closed_within, stands_on, token_size, fault_fits)
+pub ruleset inners = (
+  passed_none,
+  end_open,
+  fault_open,
+  closing_past,
+  other_passed,
+  opening_deep,
+  form_passed,
+  inner_refused,
+  past_closed,
+  closed_within,
+  stands_on,
+  token_size,
+  fault_fits,
+)
 
 pub ruleset folding = (folds_other, folds_end, folds_fault, folds_form, stands_on)
 

@@ -8,6 +8,7 @@ ghost use Rattle.std.specs.IoError.{error_kind};
 use std::fs::File;
 use std::io;
 use std::io::{ErrorKind, Read};
+use std::process::ExitCode;
 use wat::{Settings, Token};
 
 // The settings of a row.
@@ -195,8 +196,15 @@ fn replay_all<R: Read>(input: &mut R) -> io::Result<[u64; 14]> {
     Ok(counts)
 }
 
-fn main(rt: HostRuntime) -> io::Result<()> {
-    let mut file = File::open(&rt, "answers")?;
+fn main(rt: HostRuntime) -> io::Result<ExitCode> {
+    let mut file = match File::open(&rt, "answers") {
+        Ok(file) => file,
+        Err(e) => {
+            eprintln!(rt; "answers: {e}")?;
+            return Ok(ExitCode::FAILURE);
+        }
+    };
     let counts = replay_all(&mut file)?;
-    replay_rows::report(&rt, &counts)
+    replay_rows::report(&rt, &counts)?;
+    Ok(ExitCode::SUCCESS)
 }

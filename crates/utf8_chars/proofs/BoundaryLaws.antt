@@ -1,6 +1,8 @@
 -- A character's first byte is none from 0x80 to 0xBF, and its later bytes are: so one byte tells whether a character starts at a place of
 -- a well-formed text. Assumes nothing.
-use Rattle.std.proofs.Common.{◌≡◌, ℕ, zero, suc, ◌+◌, ◌-◌, ◌<◌, ◌≤◌, Bool, true, false, leb, List, [], ◌∷◌, length, get_or, drop, refl, ⊎_elim, arith, length-append, drop_of_length-le, drop-cons, get_or-append-add, leb-true}
+use Rattle.std.proofs.Common.{◌≡◌, ℕ, zero, suc, ◌+◌, ◌-◌, ◌<◌, ◌≤◌, Bool, true, false, leb, List, [], ◌∷◌, length}
+use Rattle.std.proofs.Common.{get_or, drop, refl, ⊎_elim, arith, length-append, drop_of_length-le, drop-cons}
+use Rattle.std.proofs.Common.{get_or-append-add, leb-true}
 use lib.ListN.{get_or-append}
 use lib.Seq.{drop-append-add}
 use Rattle.wat.specs.Utf8.{Range, ◌‥◌, table, Fits, done, next, Char, WellFormed, empty, more}

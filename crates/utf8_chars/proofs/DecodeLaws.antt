@@ -1,5 +1,6 @@
 -- Laws for the code that decodes the character at a place. Assumes nothing.
-use Rattle.std.proofs.Common.{◌≡◌, ℕ, ◌<◌, ◌≤◌, List, [], ◌∷◌, length, take, drop, ap, ⊎_elim, arith, length-append, length-drop, drop_of_length-le, length-take-le, drop-drop}
+use Rattle.std.proofs.Common.{◌≡◌, ℕ, ◌<◌, ◌≤◌, List, [], ◌∷◌, length, take, drop, ap, ⊎_elim, arith, length-append}
+use Rattle.std.proofs.Common.{length-drop, drop_of_length-le, length-take-le, drop-drop}
 use lib.Seq.{take-append_seam}
 use Rattle.wat.specs.Utf8.{Char, scalar}
 use Rattle.wat.specs.declared.Front.{Front}

@@ -1,5 +1,6 @@
 -- The check passes over a character of two, three or four bytes. Assumes nothing.
-use Rattle.std.proofs.Common.{◌≡◌, ℕ, suc, ◌+◌, ◌<◌, ◌≤◌, List, [], ◌∷◌, ◌++◌, length, get_or, drop, sym, ap, ◌∙◌, add-one, arith, drop-cons}
+use Rattle.std.proofs.Common.{◌≡◌, ℕ, suc, ◌+◌, ◌<◌, ◌≤◌, List, [], ◌∷◌, ◌++◌, length, get_or, drop, sym, ap, ◌∙◌}
+use Rattle.std.proofs.Common.{add-one, arith, drop-cons}
 use native.Mathlib.Numerals.{add-two, add-three, add-four}
 use Rattle.wat.specs.Utf8.{Char}
 use Rattle.wat.specs.Utf8Model.{front, scan}

@@ -1,5 +1,6 @@
 -- Laws for the code that checks a text from a place on. Assumes nothing.
-use Rattle.std.proofs.Common.{◌≡◌, ℕ, suc, pred, ◌+◌, ◌<◌, ◌≤◌, List, [], ◌∷◌, length, get_or, drop, ap, ◌∙◌, arith, drop_of_length-le, drop-cons, drop-drop}
+use Rattle.std.proofs.Common.{◌≡◌, ℕ, suc, pred, ◌+◌, ◌<◌, ◌≤◌, List, [], ◌∷◌, length, get_or, drop, ap, ◌∙◌, arith}
+use Rattle.std.proofs.Common.{drop_of_length-le, drop-cons, drop-drop}
 use Rattle.wat.specs.Utf8.{Says}
 use Rattle.wat.specs.declared.Front.TheVariants.{Whole, Wrong, Cut}
 use Rattle.wat.specs.Utf8Model.{front, verdict, scan, checked}

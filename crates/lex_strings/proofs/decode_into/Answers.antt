@@ -15,8 +15,8 @@ bounds-dst-to c =
 
 pub loop-i-smaller-then-b-lt256 : goal.loop-i-smaller-then-b-lt256
 loop-i-smaller-then-b-lt256 c =
-    let x = written_byte (written_raws c.loop-i.invariant c.raw_end-j.ensures c.copy.ensures) c.requires.at_in_bounds.1 c.requires.s_in_bounds
-    (c.pair-b.ensures c.if-b-lt256.true _) in
+    let w = written_raws c.loop-i.invariant c.raw_end-j.ensures c.copy.ensures in
+    let x = written_byte w c.requires.at_in_bounds.1 c.requires.s_in_bounds (c.pair-b.ensures c.if-b-lt256.true _) in
     omega (arith, x.passed.within, c.raw_end-j.ensures.order)
 
 pub loop-i-preserved-then-b-lt256 : goal.loop-i-preserved-then-b-lt256
