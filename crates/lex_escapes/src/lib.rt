@@ -146,7 +146,7 @@ fn letter(c: u32) -> u8
 // After `\` and a digit of value `high`: the Rust's `hexdigit`.
 #[tactic(auto, using(crate::proofs::ElementLaws::seconds))]
 fn second_digit(s: &[u8], at: usize, high: u8, t: &[u8; 256]) -> Read
-    requires at_in_bounds { (at + 2 ≤ length s.now) × (high < 16) }
+    requires after_a_digit { (at + 2 ≤ length s.now) × (high < 16) }
     requires classes { Classes t.now }
     ensures { Says (drop at s.now)
         (model.second_by high (model.peek (drop (at + 2) s.now))) result }

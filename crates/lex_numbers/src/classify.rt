@@ -145,7 +145,7 @@ fn decide_at(text: &[u8], digits: Skip, end: usize, sign: Sign, hex: bool, t: &[
 // Passes the digits of a number, which stand after 0x where it is hexadecimal.
 // Each call names its radix, so that each loop is compiled for its own.
 fn digits_at(text: &[u8], at: usize, end: usize, hex: bool, t: &[u8; 256]) -> Skip
-    requires hex_bound { (at + length (prefix hex) ≤ end) × (end ≤ length text.now) }
+    requires prefix_within { (at + length (prefix hex) ≤ end) × (end ≤ length text.now) }
     requires classes { Classes t.now }
     ensures { Skipped text.now end
         (run hex true (slice (at + length (prefix hex)) end text.now)) result }

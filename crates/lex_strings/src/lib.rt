@@ -76,7 +76,7 @@ pub fn has_escape(s: &[u8], from: usize, to: usize) -> bool
 // How many bytes a whole string stands for.
 #[tactic(auto, using(crate::proofs::CopyLaws::measures))]
 pub fn decoded_len(s: &[u8], at: usize, t: &[u8; 256]) -> usize
-    requires at_in_bounds { (at ≤ length s.now) × Closes (string lenient (drop at s.now)) }
+    requires closes { (at ≤ length s.now) × Closes (string lenient (drop at s.now)) }
     requires classes { Classes t.now }
     ensures { result ≡ length (value_of (string lenient (drop at s.now))) }
 {
@@ -112,8 +112,8 @@ pub fn decoded_len(s: &[u8], at: usize, t: &[u8; 256]) -> usize
 // Writes the bytes that a whole string stands for to the front of a buffer that has the room; returns how many.
 #[tactic(auto, using(crate::proofs::CopyLaws::writes))]
 pub fn decode_into(s: &[u8], at: usize, dst: &mut [u8], t: &[u8; 256]) -> usize
-    requires at_in_bounds { (at ≤ length s.now) × Closes (string lenient (drop at s.now)) }
-    requires s_in_bounds { length (value_of (string lenient (drop at s.now))) ≤ length dst.old }
+    requires closes { (at ≤ length s.now) × Closes (string lenient (drop at s.now)) }
+    requires room { length (value_of (string lenient (drop at s.now))) ≤ length dst.old }
     requires classes { Classes t.now }
     ensures { Copied dst.old dst.new
         (value_of (string lenient (drop at s.now))) result }

@@ -25,7 +25,7 @@ pub fn token_alone(s: &[u8], t: &[u8; 256]) -> u16
 // The same for a text that begins with a quotation mark, which no word does.
 #[tactic(auto, using(crate::proofs::AloneLaws::string_whole))]
 fn string_alone(s: &[u8], t: &[u8; 256]) -> u16
-    requires s_nonzero { (0 < length s.now) × (get_or s.now 0 0 ≡ byte "\"") }
+    requires quoted { (0 < length s.now) × (get_or s.now 0 0 ≡ byte "\"") }
     requires classes { Classes t.now }
     ensures { Alone s.now result }
 {
@@ -42,7 +42,7 @@ fn string_alone(s: &[u8], t: &[u8; 256]) -> u16
 
 // The same for a text that begins otherwise.
 fn word_alone(s: &[u8], t: &[u8; 256]) -> u16
-    requires s_nonzero { 0 < length s.now }
+    requires not_empty { 0 < length s.now }
     requires classes { Classes t.now }
     ensures { Alone s.now result }
 {

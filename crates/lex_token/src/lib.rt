@@ -111,7 +111,7 @@ fn quick(s: &[u8], at: usize, t: &[u8; 256]) -> Step
 // `(`, unless it begins a block comment.
 #[tactic(auto, using(crate::proofs::QuickLaws::quicks))]
 fn quick_paren(s: &[u8], at: usize) -> Step
-    requires at_in_bounds { (at < length s.now) × (model.family (get_or s.now at 0) ≡ Family.OpenParen) }
+    requires at_a_paren { (at < length s.now) × (model.family (get_or s.now at 0) ≡ Family.OpenParen) }
     requires well_formed { WellFormed (drop at s.now) }
     ensures { Quick s.now at result }
 {
@@ -127,7 +127,7 @@ fn quick_paren(s: &[u8], at: usize) -> Step
 // A word, unless a quotation mark follows it: its first idchar is seen already.
 #[tactic(auto, using(crate::proofs::QuickLaws::quicks))]
 fn quick_word(s: &[u8], at: usize, t: &[u8; 256]) -> Step
-    requires at_in_bounds { (at < length s.now) × (idchar (get_or s.now at 0) ≡ true) }
+    requires at_an_idchar { (at < length s.now) × (idchar (get_or s.now at 0) ≡ true) }
     requires well_formed { WellFormed (drop at s.now) }
     requires classes { Classes t.now }
     ensures { Quick s.now at result }
@@ -214,7 +214,7 @@ fn comment(s: &[u8], at: usize, end: usize, kind: u16, settings: Settings) -> St
 // A token that is a run: idchars alone, idchars and one string, or more.
 #[tactic(auto, using(crate::proofs::ReservedLaws::word_some))]
 fn parse_reserved(s: &[u8], at: usize, settings: Settings, t: &[u8; 256]) -> Step
-    requires at_in_bounds { (at < length s.now) × (model.family (get_or s.now at 0) ≡ Family.Run) }
+    requires at_a_run { (at < length s.now) × (model.family (get_or s.now at 0) ≡ Family.Run) }
     requires well_formed { WellFormed (drop at s.now) }
     requires classes { Classes t.now }
     ensures { result ≡ step_of at (model.lex_by settings Family.Run (drop at s.now)) }

@@ -23,4 +23,4 @@ returns-in-Quote c = measured_quote (measured_raws c.loop-i.invariant c.raw_end-
 pub returns-in-Refused : goal.returns-in-Refused
 returns-in-Refused c =
     let x = measured_raws c.loop-i.invariant c.raw_end-j.ensures in
-    absurd (never_refused x.passed c.in-Refused.ensures c.requires.at_in_bounds.1)
+    absurd (never_refused x.passed c.in-Refused.ensures c.requires.closes.1)
