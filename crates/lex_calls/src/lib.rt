@@ -10,10 +10,10 @@ ghost use Rattle.wat.specs.StringModel.{peek};
 ghost use Rattle.wat.specs.LexModel as model;
 ghost use Rattle.wat.specs.Lexing.{Lexed};
 ghost use Rattle.wat.specs.Calls.{Text, Stands, Parses, Annotates};
-ghost use Rattle.lex_classes.specs.Table.{Classes};
 ghost use Rattle.lex_token.specs.Steps.{Faults};
 
 use codes::MaybeKind;
+use lex_classes::Table;
 use lex_entry::Entry;
 use utf8_chars::Decoded;
 use wat::{
@@ -41,7 +41,7 @@ fn parse_at(text: &[u8], settings: Settings, pos: usize) -> Parsed
     requires { Stands text.now pos }
     ensures { Parses settings text.now pos result }
 {
-    let t = lex_classes::table();
+    let t = Table::new();
     match next(text, pos, settings, &t) {
         Answer::End => Parsed {
             found: Found::Nothing,
@@ -71,10 +71,9 @@ fn parse_at(text: &[u8], settings: Settings, pos: usize) -> Parsed
 // What is next at a place of a checked text. Every walk over the tokens of a text calls this, except the listing's
 // loop. Places count from there.
 #[tactic(auto, using(crate::proofs::CallLaws::nexts))]
-pub fn next(text: &[u8], at: usize, settings: Settings, t: &[u8; 256]) -> Answer
+pub fn next(text: &[u8], at: usize, settings: Settings, t: &Table) -> Answer
     requires at_in_bounds { at ≤ length text.now }
     requires well_formed { WellFormed (drop at text.now) }
-    requires classes { Classes t.now }
     ensures { Lexed settings (drop at text.now) result }
 {
     if at == text.len() {
@@ -100,13 +99,12 @@ pub fn next(text: &[u8], at: usize, settings: Settings, t: &[u8; 256]) -> Answer
 }
 
 // The error at a place before the end at which `parse_kind` finds no token.
-pub fn fault_at(s: &[u8], at: usize, settings: Settings, t: &[u8; 256]) -> Fault
+pub fn fault_at(s: &[u8], at: usize, settings: Settings, t: &Table) -> Fault
     requires at_in_bounds { at < length s.now }
     requires well_formed { WellFormed (drop at s.now) }
-    requires classes { Classes t.now }
     ensures { Faults at (model.lex settings (drop at s.now)) result }
 {
-    match lex_classes::begins(t, s[at]) {
+    match t.begins(s[at]) {
         Family::OpenParen => block_fault(s, at),
         Family::Semi => comment_fault(s, at, lex_comments::line_end(s, at)),
         Family::Run => run_fault(s, at, settings, t),
@@ -160,10 +158,9 @@ fn comment_fault(s: &[u8], at: usize, end: usize) -> Fault
 }
 
 // 12 to 20, and 21 in a string.
-fn run_fault(s: &[u8], at: usize, settings: Settings, t: &[u8; 256]) -> Fault
+fn run_fault(s: &[u8], at: usize, settings: Settings, t: &Table) -> Fault
     requires at_in_bounds { at ≤ length s.now }
     requires well_formed { WellFormed (drop at s.now) }
-    requires classes { Classes t.now }
     ensures { Faults at (model.lex_by settings Family.Run (drop at s.now)) result }
 {
     match lex_token::parse_run(s, at, settings, t) {
@@ -215,7 +212,7 @@ fn annotation_at(text: &[u8], settings: Settings, pos: usize) -> Found
     if !lex_token::is_at(text, pos, b'@') {
         return Found::Nothing;
     }
-    let t = lex_classes::table();
+    let t = Table::new();
     match next(text, pos, settings, &t) {
         Answer::End => Found::Nothing,
         Answer::Fault(fault) => {

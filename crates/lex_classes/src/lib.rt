@@ -1,5 +1,5 @@
 // Classes of bytes and of characters, and the scans over them. wat's definitions say which bytes are meant.
-// Callers ask for a class by a function, to which they lend the one table: so the table can change and no caller does.
+// Callers ask a `Table`, which they lend on: so the table can change and no caller does.
 
 #![tactic(auto)]
 
@@ -71,69 +71,114 @@ const CLASSES: [u8; 256] = [
     /* 0xf0 */ NA, NA, NA, NA, NA, NA, NA, NA, NA, NA, NA, NA, NA, NA, NA, NA,
 ];
 
-// The table to lend: once for a call, since a constant array is stored anew wherever it is named.
-pub fn table() -> [u8; 256]
-    ensures { Classes result }
-{
-    CLASSES
+// The table of classes. A call makes one and lends it on, since a constant array is stored anew wherever it is named.
+#[derive(Drop)]
+pub struct Table {
+    classes: [u8; 256],
+    ghost answers: { Classes classes },
 }
 
-pub fn is_ws(t: &[u8; 256], b: u8) -> bool
-    requires { Classes t.now }
-    ensures { result ≡ space b }
-{
-    t[b as usize] == WS
-}
-
-// https://webassembly.github.io/spec/core/text/values.html#text-idchar
-pub fn is_idchar(t: &[u8; 256], b: u8) -> bool
-    requires { Classes t.now }
-    ensures { result ≡ idchar b }
-{
-    ID <= t[b as usize]
-}
-
-// What a byte begins: the classes of most bytes first.
-pub fn begins(t: &[u8; 256], b: u8) -> Family
-    requires { Classes t.now }
-    ensures { result ≡ family b }
-{
-    let class = t[b as usize];
-    if ID <= class {
-        return Family::Run;
+impl Table {
+    // The table of this file.
+    pub fn new() -> Table {
+        Table { classes: CLASSES }
     }
-    match class {
-        WS => Family::Spaces,
-        OP => Family::OpenParen,
-        CL => Family::CloseParen,
-        SC => Family::Semi,
-        PU => Family::Single,
-        QU => Family::Run,
-        _ => Family::Other,
-    }
-}
 
-// a to z: what a keyword begins with.
-#[tactic(auto, unfolding(wat::specs::Bytes::between))]
-pub fn is_letter(t: &[u8; 256], b: u8) -> bool
-    requires { Classes t.now }
-    ensures { result ≡ letter b }
-{
-    let class = t[b as usize];
-    (LX <= class) & (class <= LO)
-}
-
-// A digit: 0 to 9, and A to F and a to f where it is hexadecimal.
-#[tactic(auto, unfolding(wat::specs::Bytes::between))]
-pub fn is_digit(t: &[u8; 256], hex: bool, b: u8) -> bool
-    requires { Classes t.now }
-    ensures { result ≡ digit hex b }
-{
-    let class = t[b as usize];
-    if hex {
-        return (DI <= class) & (class <= LX);
+    // Any other whose classes answer as the definitions do.
+    pub fn of(classes: [u8; 256]) -> Table
+        requires { Classes classes }
+        ensures { result.classes ≡ classes }
+    {
+        Table { classes }
     }
-    class == DI
+
+    pub fn is_ws(&self, b: u8) -> bool
+        ensures { result ≡ space b }
+    {
+        self.classes[b as usize] == WS
+    }
+
+    // https://webassembly.github.io/spec/core/text/values.html#text-idchar
+    pub fn is_idchar(&self, b: u8) -> bool
+        ensures { result ≡ idchar b }
+    {
+        ID <= self.classes[b as usize]
+    }
+
+    // What a byte begins: the classes of most bytes first.
+    pub fn begins(&self, b: u8) -> Family
+        ensures { result ≡ family b }
+    {
+        let class = self.classes[b as usize];
+        if ID <= class {
+            return Family::Run;
+        }
+        match class {
+            WS => Family::Spaces,
+            OP => Family::OpenParen,
+            CL => Family::CloseParen,
+            SC => Family::Semi,
+            PU => Family::Single,
+            QU => Family::Run,
+            _ => Family::Other,
+        }
+    }
+
+    // a to z: what a keyword begins with.
+    #[tactic(auto, unfolding(wat::specs::Bytes::between))]
+    pub fn is_letter(&self, b: u8) -> bool
+        ensures { result ≡ letter b }
+    {
+        let class = self.classes[b as usize];
+        (LX <= class) & (class <= LO)
+    }
+
+    // A digit: 0 to 9, and A to F and a to f where it is hexadecimal.
+    #[tactic(auto, unfolding(wat::specs::Bytes::between))]
+    pub fn is_digit(&self, hex: bool, b: u8) -> bool
+        ensures { result ≡ digit hex b }
+    {
+        let class = self.classes[b as usize];
+        if hex {
+            return (DI <= class) & (class <= LX);
+        }
+        class == DI
+    }
+
+    // The value of a character that is a hexadecimal digit, or 16 for any other.
+    #[tactic(auto, using(crate::proofs::AskLaws::hexes))]
+    pub fn to_hex(&self, c: u32) -> u8
+        ensures { hex_of c ≡ digit_of result }
+    {
+        if 0xff < c {
+            return 16;
+        }
+        let b = c as u8;
+        if self.is_digit(true, b) {
+            return hex_value(b) as u8;
+        }
+        16
+    }
+
+    #[tactic(auto, unfolding(wat::specs::Chars::control))]
+    pub fn is_control(&self, c: u32) -> bool
+        ensures { result ≡ control c }
+    {
+        if 0xff < c {
+            return false;
+        }
+        let class = self.classes[c as usize];
+        (class == CT) | ((class == WS) & (c != 0x20))
+    }
+
+    // An ASCII character that a string holds as it is: none that 12 refuses, no `"` and no `\`.
+    #[tactic(auto, unfolding(wat::specs::Bytes::between))]
+    pub fn is_raw(&self, b: u8) -> bool
+        ensures { result ≡ raw b }
+    {
+        let class = self.classes[b as usize];
+        ((OP <= class) & (class <= LO)) | (b == b' ')
+    }
 }
 
 // The value of a hexadecimal digit: its low four bits, and 9 for a letter.
@@ -141,44 +186,6 @@ pub fn hex_value(b: u8) -> u32
     ensures { result ≡ b % 16 + 9 * (b / 64) }
 {
     (b as u32) % 16 + 9 * ((b as u32) / 64)
-}
-
-// The value of a character that is a hexadecimal digit, or 16 for any other.
-#[tactic(auto, using(crate::proofs::AskLaws::hexes))]
-pub fn to_hex(t: &[u8; 256], c: u32) -> u8
-    requires { Classes t.now }
-    ensures { hex_of c ≡ digit_of result }
-{
-    if 0xff < c {
-        return 16;
-    }
-    let b = c as u8;
-    if is_digit(t, true, b) {
-        return hex_value(b) as u8;
-    }
-    16
-}
-
-#[tactic(auto, unfolding(wat::specs::Chars::control))]
-pub fn is_control(t: &[u8; 256], c: u32) -> bool
-    requires { Classes t.now }
-    ensures { result ≡ control c }
-{
-    if 0xff < c {
-        return false;
-    }
-    let class = t[c as usize];
-    (class == CT) | ((class == WS) & (c != 0x20))
-}
-
-// An ASCII character that a string holds as it is: none that 12 refuses, no `"` and no `\`.
-#[tactic(auto, unfolding(wat::specs::Bytes::between))]
-pub fn is_raw(t: &[u8; 256], b: u8) -> bool
-    requires { Classes t.now }
-    ensures { result ≡ raw b }
-{
-    let class = t[b as usize];
-    ((OP <= class) & (class <= LO)) | (b == b' ')
 }
 
 #[tactic(auto, unfolding(wat::specs::Chars::is_scalar, wat::specs::Bytes::between))]
@@ -253,9 +260,8 @@ fn spaces32(s: &[u8], i: usize) -> usize
 
 // As `skip_ws`, where much white space is to be expected: 32 bytes at a time.
 #[tactic(auto, using(crate::proofs::ScanLaws::scans))]
-fn long_ws(s: &[u8], at: usize, t: &[u8; 256]) -> usize
+fn long_ws(s: &[u8], at: usize, t: &Table) -> usize
     requires at_in_bounds { at ≤ length s.now }
-    requires classes { Classes t.now }
     ensures { Scanned space true s.now at result }
 {
     let mut i = at;
@@ -267,7 +273,7 @@ fn long_ws(s: &[u8], at: usize, t: &[u8; 256]) -> usize
         i += 32;
     }
     while i < s.len() {
-        if !is_ws(t, s[i]) {
+        if !t.is_ws(s[i]) {
             return i;
         }
         i += 1;
@@ -280,9 +286,8 @@ fn long_ws(s: &[u8], at: usize, t: &[u8; 256]) -> usize
 // short: the first eight bytes are looked at one by one, in a loop of fixed length, which LLVM unrolls, so that each
 // step has a branch of its own for the processor to foresee.
 #[tactic(auto, using(crate::proofs::ScanLaws::scans))]
-pub fn skip_ws(s: &[u8], at: usize, t: &[u8; 256]) -> usize
+pub fn skip_ws(s: &[u8], at: usize, t: &Table) -> usize
     requires at_in_bounds { at ≤ length s.now }
-    requires classes { Classes t.now }
     ensures { Scanned space true s.now at result }
 {
     if s.len() - at < 8 {
@@ -291,7 +296,7 @@ pub fn skip_ws(s: &[u8], at: usize, t: &[u8; 256]) -> usize
     let near = at + 8;
     let mut i = at;
     while i < near {
-        if !is_ws(t, s[i]) {
+        if !t.is_ws(s[i]) {
             return i;
         }
         i += 1;
@@ -301,9 +306,8 @@ pub fn skip_ws(s: &[u8], at: usize, t: &[u8; 256]) -> usize
 
 // The place behind the idchars from `at` on: the first eight bytes as in `skip_ws`.
 #[tactic(auto, using(crate::proofs::ScanLaws::scans))]
-pub fn idchars_end(s: &[u8], at: usize, t: &[u8; 256]) -> usize
+pub fn idchars_end(s: &[u8], at: usize, t: &Table) -> usize
     requires at_in_bounds { at ≤ length s.now }
-    requires classes { Classes t.now }
     ensures { Scanned idchar true s.now at result }
 {
     if s.len() - at < 8 {
@@ -312,7 +316,7 @@ pub fn idchars_end(s: &[u8], at: usize, t: &[u8; 256]) -> usize
     let near = at + 8;
     let mut i = at;
     while i < near {
-        if !is_idchar(t, s[i]) {
+        if !t.is_idchar(s[i]) {
             return i;
         }
         i += 1;
@@ -322,14 +326,13 @@ pub fn idchars_end(s: &[u8], at: usize, t: &[u8; 256]) -> usize
 
 // As `idchars_end`, for a word of any length.
 #[tactic(auto, using(crate::proofs::ScanLaws::scans))]
-fn long_word(s: &[u8], at: usize, t: &[u8; 256]) -> usize
+fn long_word(s: &[u8], at: usize, t: &Table) -> usize
     requires at_in_bounds { at ≤ length s.now }
-    requires classes { Classes t.now }
     ensures { Scanned idchar true s.now at result }
 {
     let mut i = at;
     while i < s.len() {
-        if !is_idchar(t, s[i]) {
+        if !t.is_idchar(s[i]) {
             return i;
         }
         i += 1;
@@ -339,14 +342,13 @@ fn long_word(s: &[u8], at: usize, t: &[u8; 256]) -> usize
 
 // The place behind the decimal digits from `at` on.
 #[tactic(auto, using(crate::proofs::ScanLaws::scans))]
-pub fn digits_end(s: &[u8], at: usize, t: &[u8; 256]) -> usize
+pub fn digits_end(s: &[u8], at: usize, t: &Table) -> usize
     requires at_in_bounds { at ≤ length s.now }
-    requires classes { Classes t.now }
     ensures { Scanned (digit false) true s.now at result }
 {
     let mut i = at;
     while i < s.len() {
-        if !is_digit(t, false, s[i]) {
+        if !t.is_digit(false, s[i]) {
             return i;
         }
         i += 1;
@@ -356,14 +358,13 @@ pub fn digits_end(s: &[u8], at: usize, t: &[u8; 256]) -> usize
 
 // The place behind the raw characters from `at` on, of those that are ASCII.
 #[tactic(auto, using(crate::proofs::ScanLaws::scans))]
-pub fn ascii_raw_end(s: &[u8], at: usize, t: &[u8; 256]) -> usize
+pub fn ascii_raw_end(s: &[u8], at: usize, t: &Table) -> usize
     requires at_in_bounds { at ≤ length s.now }
-    requires classes { Classes t.now }
     ensures { Scanned raw true s.now at result }
 {
     let mut i = at;
     while i < s.len() {
-        if !is_raw(t, s[i]) {
+        if !t.is_raw(s[i]) {
             return i;
         }
         i += 1;

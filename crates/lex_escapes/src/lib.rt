@@ -8,9 +8,9 @@ ghost use Rattle.std.specs.Prelude.{◌≡◌, ◌+◌, ◌≤◌, ◌<◌, leng
 ghost use Rattle.wat.specs.Strings.{escapes};
 ghost use Rattle.wat.specs.StringModel as model;
 ghost use Rattle.utf8_chars.specs.Decoding.{Decodes};
-ghost use Rattle.lex_classes.specs.Table.{Classes};
 ghost use Rattle.lex_escapes.specs.Elements.{letter_of, Says};
 
+use lex_classes::Table;
 use utf8_chars::Decoded;
 use wat::{Fault, LexError, Settings};
 
@@ -28,8 +28,7 @@ pub enum Read {
 
 // An element or the closing quote, at any position of any bytes; where no character stands, the text ends for it.
 #[tactic(auto, using(crate::proofs::ElementLaws::elements))]
-pub fn element(s: &[u8], at: usize, settings: Settings, t: &[u8; 256]) -> Read
-    requires { Classes t.now }
+pub fn element(s: &[u8], at: usize, settings: Settings, t: &Table) -> Read
     ensures { Says (drop at s.now) (model.read settings (drop at s.now)) result }
 {
     if s.len() <= at {
@@ -50,7 +49,7 @@ pub fn element(s: &[u8], at: usize, settings: Settings, t: &[u8; 256]) -> Read
         return escape(s, at, settings, t);
     }
     let value = wide(b);
-    if lex_classes::is_control(t, value) {
+    if t.is_control(value) {
         return Read::Refused(Fault {
             error: LexError::InvalidStringElement(value),
             place: 0,
@@ -96,9 +95,8 @@ fn hides(settings: Settings, c: u32) -> bool
 
 // The escape that starts at `at`, after its `\`.
 #[tactic(auto, using(crate::proofs::ElementLaws::escaped))]
-fn escape(s: &[u8], at: usize, settings: Settings, t: &[u8; 256]) -> Read
+fn escape(s: &[u8], at: usize, settings: Settings, t: &Table) -> Read
     requires at_in_bounds { at + 1 ≤ length s.now }
-    requires classes { Classes t.now }
     ensures { Says (drop at s.now)
         (model.escape_by settings (model.peek (drop (at + 1) s.now))) result }
 {
@@ -116,7 +114,7 @@ fn escape(s: &[u8], at: usize, settings: Settings, t: &[u8; 256]) -> Read
     if v != 0 {
         return Read::Byte { value: v, len: 2 };
     }
-    let d = lex_classes::to_hex(t, value);
+    let d = t.to_hex(value);
     if d < 16 {
         return second_digit(s, at, d, t);
     }
@@ -145,9 +143,8 @@ fn letter(c: u32) -> u8
 
 // After `\` and a digit of value `high`: the Rust's `hexdigit`.
 #[tactic(auto, using(crate::proofs::ElementLaws::seconds))]
-fn second_digit(s: &[u8], at: usize, high: u8, t: &[u8; 256]) -> Read
+fn second_digit(s: &[u8], at: usize, high: u8, t: &Table) -> Read
     requires after_a_digit { (at + 2 ≤ length s.now) × (high < 16) }
-    requires classes { Classes t.now }
     ensures { Says (drop at s.now)
         (model.second_by high (model.peek (drop (at + 2) s.now))) result }
 {
@@ -158,7 +155,7 @@ fn second_digit(s: &[u8], at: usize, high: u8, t: &[u8; 256]) -> Read
             after: 2,
         });
     };
-    let d = lex_classes::to_hex(t, value);
+    let d = t.to_hex(value);
     if d < 16 {
         return Read::Byte {
             value: high * 16 + d,

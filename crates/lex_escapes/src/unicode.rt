@@ -2,18 +2,17 @@
 ghost use Rattle.std.specs.Prelude.{◌≡◌, true, false, ◌+◌, ◌≤◌, length, drop};
 ghost use Rattle.wat.specs.Chars.{is_scalar};
 ghost use Rattle.wat.specs.StringModel as model;
-ghost use Rattle.lex_classes.specs.Table.{Classes};
 ghost use Rattle.lex_escapes.specs.Elements.{consumed, Counted, Says};
 
 use super::{Read, must_char, wide};
+use lex_classes::Table;
 use utf8_chars::Decoded;
 use wat::{Fault, LexError, Num, Settings};
 
 // After `\u`: the Rust's `must_eat_char` for `{`.
 #[tactic(auto, using(crate::proofs::ElementLaws::braces))]
-pub fn open_brace(s: &[u8], at: usize, settings: Settings, t: &[u8; 256]) -> Read
+pub fn open_brace(s: &[u8], at: usize, settings: Settings, t: &Table) -> Read
     requires at_in_bounds { at + 2 ≤ length s.now }
-    requires classes { Classes t.now }
     ensures { Says (drop at s.now)
         (model.brace_by settings (model.peek (drop (at + 2) s.now))) result }
 {
@@ -39,9 +38,8 @@ pub fn open_brace(s: &[u8], at: usize, settings: Settings, t: &[u8; 256]) -> Rea
 
 // After `\u{`: the Rust's `hexnum` up to its loop.
 #[tactic(auto, using(crate::proofs::ElementLaws::firsts))]
-fn first_digit(s: &[u8], at: usize, settings: Settings, t: &[u8; 256]) -> Read
+fn first_digit(s: &[u8], at: usize, settings: Settings, t: &Table) -> Read
     requires at_in_bounds { at + 3 ≤ length s.now }
-    requires classes { Classes t.now }
     ensures { Says (drop at s.now)
         (model.first_by settings (model.peek (drop (at + 3) s.now))) result }
 {
@@ -52,7 +50,7 @@ fn first_digit(s: &[u8], at: usize, settings: Settings, t: &[u8; 256]) -> Read
             after: 3,
         });
     };
-    let d = lex_classes::to_hex(t, value);
+    let d = t.to_hex(value);
     if d < 16 {
         return unicode_value(s, at, wide(d), settings, t);
     }
@@ -65,9 +63,8 @@ fn first_digit(s: &[u8], at: usize, settings: Settings, t: &[u8; 256]) -> Read
 
 // After `\u{` and a digit of value `first`. The number must be a scalar value before `}` is looked for.
 #[tactic(auto, using(crate::proofs::ElementLaws::numbers))]
-fn unicode_value(s: &[u8], at: usize, first: u32, settings: Settings, t: &[u8; 256]) -> Read
+fn unicode_value(s: &[u8], at: usize, first: u32, settings: Settings, t: &Table) -> Read
     requires at_in_bounds { at + 4 ≤ length s.now }
-    requires classes { Classes t.now }
     ensures { Says (drop at s.now)
         (model.number_by (drop (at + 3) s.now)
         (model.digits settings false first 1 (drop (at + 4) s.now))) result }
@@ -138,9 +135,8 @@ fn close_brace(s: &[u8], at: usize, value: u32, len: usize) -> Read
 // The number of `\u{..}` whose first digit has the value `first` and ends at `at`: the loop of the Rust's `hexnum`. Where
 // digits are strict, the second underscore of a pair is refused as it is met.
 #[tactic(auto, using(crate::proofs::NumberLaws::runs))]
-fn hexnum(s: &[u8], at: usize, first: u32, settings: Settings, t: &[u8; 256]) -> Num
+fn hexnum(s: &[u8], at: usize, first: u32, settings: Settings, t: &Table) -> Num
     requires at_in_bounds { at ≤ length s.now }
-    requires classes { Classes t.now }
     ensures { Counted (drop at s.now)
         (model.digits settings false first 1 (drop at s.now)) result }
 {
@@ -156,7 +152,7 @@ fn hexnum(s: &[u8], at: usize, first: u32, settings: Settings, t: &[u8; 256]) ->
             under = true;
             i += 1;
         } else {
-            let d = lex_classes::to_hex(t, wide(b));
+            let d = t.to_hex(wide(b));
             if 16 <= d {
                 return close(under, value, 1 + (i - at));
             }

@@ -5,11 +5,11 @@
 ghost use Rattle.std.specs.Prelude.{◌≡◌};
 ghost use Rattle.wat.specs.declared.Refusal.TheVariants.{NotThatKind};
 ghost use Rattle.wat.specs.Calls.{Stands};
-ghost use Rattle.lex_classes.specs.Table.{Classes};
 ghost use Rattle.wat_forms.specs.declared.Folded.TheVariants.{Refused};
 ghost use Rattle.wat_forms.specs.Forms.{Folds};
 ghost use Rattle.lex_forms.specs.Inner.{InnerFolds};
 
+use lex_classes::Table;
 use lex_entry::Entry;
 use wat::{Answer, Refusal, Settings, TokenKind};
 use wat_forms::Folded;
@@ -31,7 +31,7 @@ fn fold_at(text: &[u8], settings: Settings, pos: usize) -> Folded
     requires { Stands text.now pos }
     ensures { Folds settings text.now pos result }
 {
-    let t = lex_classes::table();
+    let t = Table::new();
     match lex_calls::next(text, pos, settings, &t) {
         Answer::Token { kind, len } => match kind {
             TokenKind::LParen => inner(text, pos + len, Folded::LEVELS - 1, settings, &t),
@@ -56,9 +56,8 @@ fn no_form() -> Folded
 // opened. Each form in it is passed by a call of the function itself, and reading goes on behind it, so that no token is
 // lexed twice.
 #[tactic(auto, using(crate::proofs::FormSteps::inners))]
-fn inner(text: &[u8], start: usize, left: usize, settings: Settings, t: &[u8; 256]) -> Folded
+fn inner(text: &[u8], start: usize, left: usize, settings: Settings, t: &Table) -> Folded
     requires stands { Stands text.now start }
-    requires classes { Classes t.now }
     ensures { InnerFolds settings text.now start left result }
 {
     let mut at = start;

@@ -7,6 +7,7 @@ ghost use Rattle.wat.specs.Division.{little, record_size, Listing};
 ghost use Rattle.wat.specs.Calls.{Stands};
 ghost use Rattle.buffers.specs.Writing.{Put};
 
+use lex_classes::Table;
 use lex_entry::Entry;
 use wat::{Listed, Refusal, Settings, Stop, Token};
 
@@ -36,7 +37,7 @@ fn list_from(
     requires { Stands text.now start }
     ensures { Listing settings text.now start budget list.old result list.new }
 {
-    let t = lex_classes::table();
+    let t = Table::new();
     let mut at = start;
     let mut n: usize = 0;
     let mut used: usize = 0;

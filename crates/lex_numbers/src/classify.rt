@@ -4,10 +4,10 @@ ghost use Rattle.std.proofs.Math.Seq.{slice};
 ghost use Rattle.wat.specs.Numbers.{marks, negative, prefix};
 ghost use Rattle.wat.specs.NumberModel.{past, run, is, fraction, exponent};
 ghost use Rattle.wat.specs.NumberModel.{at_end, then, decide, payload, finite, unsigned};
-ghost use Rattle.lex_classes.specs.Table.{Classes};
 ghost use Rattle.lex_numbers.specs.Places.{left_at, Within, Skipped, Begins};
 
 use super::{Skip, fraction_at, past_sign, skip_underscores};
+use lex_classes::Table;
 use wat::{Number, Sign};
 
 // The bytes from `at` to `end` begin with `word`.
@@ -65,9 +65,8 @@ fn is_mark(hex: bool, c: u8) -> bool
 }
 
 #[tactic(auto, using(crate::proofs::PartLaws::exponents))]
-fn exponent_at(text: &[u8], at: usize, end: usize, hex: bool, t: &[u8; 256]) -> Skip
+fn exponent_at(text: &[u8], at: usize, end: usize, hex: bool, t: &Table) -> Skip
     requires at_le_end { (at ≤ end) × (end ≤ length text.now) }
-    requires classes { Classes t.now }
     ensures { Skipped text.now end (exponent hex (slice at end text.now)) result }
 {
     if at == end {
@@ -86,9 +85,8 @@ fn exponent_at(text: &[u8], at: usize, end: usize, hex: bool, t: &[u8; 256]) -> 
 // What follows the digits of a float: a fraction, an exponent, and nothing more. `seen` says whether the digits have
 // an underscore.
 #[tactic(auto, using(crate::proofs::KindLaws::floats))]
-fn float_at(text: &[u8], at: usize, end: usize, hex: bool, seen: bool, t: &[u8; 256]) -> Number
+fn float_at(text: &[u8], at: usize, end: usize, hex: bool, seen: bool, t: &Table) -> Number
     requires at_le_end { (at ≤ end) × (end ≤ length text.now) }
-    requires classes { Classes t.now }
     ensures { result ≡ at_end
         (then (then (past seen (slice at end text.now)) (fraction hex)) (exponent hex))
         (Number.Normal hex) }
@@ -122,9 +120,8 @@ fn float_at(text: &[u8], at: usize, end: usize, hex: bool, seen: bool, t: &[u8; 
 
 // The kind of a number whose digits are passed.
 #[tactic(auto, using(crate::proofs::KindLaws::decisions))]
-fn decide_at(text: &[u8], digits: Skip, end: usize, sign: Sign, hex: bool, t: &[u8; 256]) -> Number
+fn decide_at(text: &[u8], digits: Skip, end: usize, sign: Sign, hex: bool, t: &Table) -> Number
     requires within { Within end digits × (end ≤ length text.now) }
-    requires classes { Classes t.now }
     ensures { result ≡ decide sign hex (left_at text.now end digits) }
 {
     match digits {
@@ -144,9 +141,8 @@ fn decide_at(text: &[u8], digits: Skip, end: usize, sign: Sign, hex: bool, t: &[
 
 // Passes the digits of a number, which stand after 0x where it is hexadecimal.
 // Each call names its radix, so that each loop is compiled for its own.
-fn digits_at(text: &[u8], at: usize, end: usize, hex: bool, t: &[u8; 256]) -> Skip
+fn digits_at(text: &[u8], at: usize, end: usize, hex: bool, t: &Table) -> Skip
     requires prefix_within { (at + length (prefix hex) ≤ end) × (end ≤ length text.now) }
-    requires classes { Classes t.now }
     ensures { Skipped text.now end
         (run hex true (slice (at + length (prefix hex)) end text.now)) result }
 {
@@ -157,9 +153,8 @@ fn digits_at(text: &[u8], at: usize, end: usize, hex: bool, t: &[u8; 256]) -> Sk
 }
 
 #[tactic(auto, using(crate::proofs::KindLaws::finites))]
-fn finite_at(text: &[u8], at: usize, end: usize, sign: Sign, t: &[u8; 256]) -> Number
+fn finite_at(text: &[u8], at: usize, end: usize, sign: Sign, t: &Table) -> Number
     requires at_le_end { (at ≤ end) × (end ≤ length text.now) }
-    requires classes { Classes t.now }
     ensures { result ≡ finite sign (slice at end text.now) }
 {
     let hex = starts(text, at, end, b"0x");
@@ -168,9 +163,8 @@ fn finite_at(text: &[u8], at: usize, end: usize, sign: Sign, t: &[u8; 256]) -> N
 }
 
 #[tactic(auto, using(crate::proofs::KindLaws::payloads))]
-fn payload_at(text: &[u8], at: usize, end: usize, sign: Sign, t: &[u8; 256]) -> Number
+fn payload_at(text: &[u8], at: usize, end: usize, sign: Sign, t: &Table) -> Number
     requires at_le_end { (at ≤ end) × (end ≤ length text.now) }
-    requires classes { Classes t.now }
     ensures { result ≡ payload sign (run true true (slice at end text.now)) }
 {
     let digits = skip_underscores(text, at, end, true, t);
@@ -190,15 +184,14 @@ fn payload_at(text: &[u8], at: usize, end: usize, sign: Sign, t: &[u8; 256]) -> 
 
 // The kind of what follows a sign. The first byte tells most words that are no number.
 #[tactic(auto, using(crate::proofs::KindLaws::kinds))]
-pub fn unsigned_at(text: &[u8], at: usize, end: usize, sign: Sign, t: &[u8; 256]) -> Number
+pub fn unsigned_at(text: &[u8], at: usize, end: usize, sign: Sign, t: &Table) -> Number
     requires at_le_end { (at ≤ end) × (end ≤ length text.now) }
-    requires classes { Classes t.now }
     ensures { result ≡ unsigned sign (slice at end text.now) }
 {
     if at == end {
         return Number::Neither;
     }
-    if lex_classes::is_digit(t, false, text[at]) {
+    if t.is_digit(false, text[at]) {
         return finite_at(text, at, end, sign, t);
     }
     if is_word(text, at, end, b"inf") {

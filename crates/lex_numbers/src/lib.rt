@@ -6,9 +6,9 @@ ghost use Rattle.std.specs.Prelude.{◌≡◌, true, ◌≤◌, length};
 ghost use Rattle.std.proofs.Math.Seq.{slice};
 ghost use Rattle.wat.specs.Numbers.{KindOf};
 ghost use Rattle.wat.specs.NumberModel.{run, fraction, sign_of};
-ghost use Rattle.lex_classes.specs.Table.{Classes};
 ghost use Rattle.lex_numbers.specs.Places.{Skipped, PastSign};
 
+use lex_classes::Table;
 use wat::{Number, Sign};
 
 mod classify;
@@ -24,9 +24,8 @@ pub enum Skip {
 // Passes the digits that the bytes from `at` to `end` begin with, and the single underscores between them.
 // What `is_digit` says is stored and not only branched on, so that a hex digit costs one jump, be it a letter or not.
 #[tactic(auto, using(crate::proofs::DigitLaws::runs))]
-pub fn skip_underscores(text: &[u8], at: usize, end: usize, hex: bool, t: &[u8; 256]) -> Skip
+pub fn skip_underscores(text: &[u8], at: usize, end: usize, hex: bool, t: &Table) -> Skip
     requires at_le_end { (at ≤ end) × (end ≤ length text.now) }
-    requires classes { Classes t.now }
     ensures { Skipped text.now end (run hex true (slice at end text.now)) result }
 {
     let mut i = at;
@@ -34,7 +33,7 @@ pub fn skip_underscores(text: &[u8], at: usize, end: usize, hex: bool, t: &[u8; 
     let mut seen = false;
     while i < end {
         let c = text[i];
-        let digit = lex_classes::is_digit(t, hex, c);
+        let digit = t.is_digit(hex, c);
         if digit | (!must & (c == b'_')) {
             seen = seen | !digit;
             must = !digit;
@@ -92,9 +91,8 @@ pub fn past_sign(text: &[u8], at: usize, end: usize) -> usize
 }
 
 #[tactic(auto, using(crate::proofs::PartLaws::fractions))]
-pub fn fraction_at(text: &[u8], at: usize, end: usize, hex: bool, t: &[u8; 256]) -> Skip
+pub fn fraction_at(text: &[u8], at: usize, end: usize, hex: bool, t: &Table) -> Skip
     requires at_le_end { (at ≤ end) × (end ≤ length text.now) }
-    requires classes { Classes t.now }
     ensures { Skipped text.now end (fraction hex (slice at end text.now)) result }
 {
     if at == end {
@@ -116,7 +114,7 @@ pub fn fraction_at(text: &[u8], at: usize, end: usize, hex: bool, t: &[u8; 256])
             at: next,
         };
     }
-    if lex_classes::is_digit(t, hex, text[next]) {
+    if t.is_digit(hex, text[next]) {
         return skip_underscores(text, next, end, hex, t);
     }
     Skip::To {
@@ -126,9 +124,8 @@ pub fn fraction_at(text: &[u8], at: usize, end: usize, hex: bool, t: &[u8; 256])
 }
 
 // The kind of the number that the bytes from `at` to `end` are.
-pub fn classify_number(text: &[u8], at: usize, end: usize, t: &[u8; 256]) -> Number
+pub fn classify_number(text: &[u8], at: usize, end: usize, t: &Table) -> Number
     requires at_le_end { (at ≤ end) × (end ≤ length text.now) }
-    requires classes { Classes t.now }
     ensures { KindOf (slice at end text.now) result }
 {
     let sign = sign_at(text, at, end);

@@ -7,10 +7,10 @@ ghost use Rattle.std.specs.Prelude.{◌≡◌, ◌≤◌, ◌<◌, length, get_o
 ghost use Rattle.std.proofs.Math.Seq.{slice};
 ghost use Rattle.wat.specs.Bytes.{byte, between, has};
 ghost use Rattle.wat.specs.Settings.{lenient};
-ghost use Rattle.lex_classes.specs.Table.{Classes};
 ghost use Rattle.lex_strings.specs.Raw.{Raw, Raws, Pairs};
 ghost use Rattle.lex_strings.specs.Parsing.{string, Parsed, Closes, value_of, Copied};
 
+use lex_classes::Table;
 use lex_escapes::Read;
 use wat::{Fault, Settings};
 
@@ -23,9 +23,8 @@ pub enum StringEnd {
 
 // The string whose opening quote ends at `at`.
 #[tactic(auto, using(crate::proofs::PassLaws::reached_none))]
-pub fn parse_str(s: &[u8], at: usize, settings: Settings, t: &[u8; 256]) -> StringEnd
+pub fn parse_str(s: &[u8], at: usize, settings: Settings, t: &Table) -> StringEnd
     requires at_in_bounds { at ≤ length s.now }
-    requires classes { Classes t.now }
     ensures { Parsed settings s.now at result }
 {
     let mut i = at;
@@ -75,9 +74,8 @@ pub fn has_escape(s: &[u8], from: usize, to: usize) -> bool
 
 // How many bytes a whole string stands for.
 #[tactic(auto, using(crate::proofs::CopyLaws::measures))]
-pub fn decoded_len(s: &[u8], at: usize, t: &[u8; 256]) -> usize
+pub fn decoded_len(s: &[u8], at: usize, t: &Table) -> usize
     requires closes { (at ≤ length s.now) × Closes (string lenient (drop at s.now)) }
-    requires classes { Classes t.now }
     ensures { result ≡ length (value_of (string lenient (drop at s.now))) }
 {
     let mut n: usize = 0;
@@ -111,10 +109,9 @@ pub fn decoded_len(s: &[u8], at: usize, t: &[u8; 256]) -> usize
 
 // Writes the bytes that a whole string stands for to the front of a buffer that has the room; returns how many.
 #[tactic(auto, using(crate::proofs::CopyLaws::writes))]
-pub fn decode_into(s: &[u8], at: usize, dst: &mut [u8], t: &[u8; 256]) -> usize
+pub fn decode_into(s: &[u8], at: usize, dst: &mut [u8], t: &Table) -> usize
     requires closes { (at ≤ length s.now) × Closes (string lenient (drop at s.now)) }
     requires room { length (value_of (string lenient (drop at s.now))) ≤ length dst.old }
-    requires classes { Classes t.now }
     ensures { Copied dst.old dst.new
         (value_of (string lenient (drop at s.now))) result }
 {
@@ -154,14 +151,13 @@ pub fn decode_into(s: &[u8], at: usize, dst: &mut [u8], t: &[u8; 256]) -> usize
 // The fast paths from here on leave to `element` what they do not decide.
 
 // The end of some raw characters from `at` on.
-fn raw_end(s: &[u8], at: usize, t: &[u8; 256]) -> usize
+fn raw_end(s: &[u8], at: usize, t: &Table) -> usize
     requires at_in_bounds { at ≤ length s.now }
-    requires classes { Classes t.now }
     ensures { Raws s.now at result }
 {
     let mut i = at;
     while i < s.len() {
-        if lex_classes::is_raw(t, s[i]) {
+        if t.is_raw(s[i]) {
             i += 1;
         } else {
             let n = wide_raw(s, i);
@@ -293,9 +289,8 @@ fn continues(b: u8) -> bool
 // The byte of the `\hh` at a place, or 256 where none stands. In data any digit follows any other: so both are tested
 // at once, and the value is had by arithmetic, with no branch to be mispredicted.
 #[tactic(auto, using(crate::proofs::RawLaws::pairs))]
-fn pair(s: &[u8], at: usize, t: &[u8; 256]) -> u32
+fn pair(s: &[u8], at: usize, t: &Table) -> u32
     requires at_in_bounds { at ≤ length s.now }
-    requires classes { Classes t.now }
     ensures { Pairs (drop at s.now) result }
 {
     if s.len() - at < 3 {
@@ -306,7 +301,7 @@ fn pair(s: &[u8], at: usize, t: &[u8; 256]) -> u32
     }
     let h = s[at + 1];
     let l = s[at + 2];
-    if lex_classes::is_digit(t, true, h) & lex_classes::is_digit(t, true, l) {
+    if t.is_digit(true, h) & t.is_digit(true, l) {
         return lex_classes::hex_value(h) * 16 + lex_classes::hex_value(l);
     }
     256

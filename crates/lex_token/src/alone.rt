@@ -2,15 +2,14 @@
 // its kind. Both are ASCII, and so UTF-8 too.
 ghost use Rattle.std.specs.Prelude.{◌≡◌, ◌<◌, length, get_or};
 ghost use Rattle.wat.specs.Bytes.{byte};
-ghost use Rattle.lex_classes.specs.Table.{Classes};
 ghost use Rattle.lex_token.specs.Alone.{Alone};
 
+use lex_classes::Table;
 use super::word_kinds;
 use wat::TokenKind;
 
 // The number of the kind of a text that is one such string, or one word; 0 where it is neither.
-pub fn token_alone(s: &[u8], t: &[u8; 256]) -> u16
-    requires { Classes t.now }
+pub fn token_alone(s: &[u8], t: &Table) -> u16
     ensures { Alone s.now result }
 {
     if s.len() == 0 {
@@ -24,9 +23,8 @@ pub fn token_alone(s: &[u8], t: &[u8; 256]) -> u16
 
 // The same for a text that begins with a quotation mark, which no word does.
 #[tactic(auto, using(crate::proofs::AloneLaws::string_whole))]
-fn string_alone(s: &[u8], t: &[u8; 256]) -> u16
+fn string_alone(s: &[u8], t: &Table) -> u16
     requires quoted { (0 < length s.now) × (get_or s.now 0 0 ≡ byte "\"") }
-    requires classes { Classes t.now }
     ensures { Alone s.now result }
 {
     let n = s.len();
@@ -41,9 +39,8 @@ fn string_alone(s: &[u8], t: &[u8; 256]) -> u16
 }
 
 // The same for a text that begins otherwise.
-fn word_alone(s: &[u8], t: &[u8; 256]) -> u16
+fn word_alone(s: &[u8], t: &Table) -> u16
     requires not_empty { 0 < length s.now }
-    requires classes { Classes t.now }
     ensures { Alone s.now result }
 {
     let n = s.len();

@@ -11,10 +11,10 @@ ghost use Rattle.wat.specs.Cases.{kind_number};
 ghost use Rattle.wat.specs.RunModel as run;
 ghost use Rattle.wat.specs.LexModel.{next};
 ghost use Rattle.wat.specs.LexModel as model;
-ghost use Rattle.lex_classes.specs.Table.{Classes};
 ghost use Rattle.lex_token.specs.Steps.{nowhere, step_of, Stepped, Quick};
 
 pub use alone::token_alone;
+use lex_classes::Table;
 use lex_strings::StringEnd;
 use wat::{Family, Hidden, RunEnd, Settings, TokenKind};
 
@@ -31,13 +31,12 @@ pub struct Step {
 // The token at a place before the end, by its first byte.
 // https://webassembly.github.io/spec/core/text/lexical.html#text-token
 #[tactic(auto, using(crate::proofs::StepLaws::steps))]
-pub fn parse_kind(s: &[u8], at: usize, settings: Settings, t: &[u8; 256]) -> Step
+pub fn parse_kind(s: &[u8], at: usize, settings: Settings, t: &Table) -> Step
     requires at_in_bounds { at < length s.now }
     requires well_formed { WellFormed (drop at s.now) }
-    requires classes { Classes t.now }
     ensures { Stepped settings s.now at result }
 {
-    match lex_classes::begins(t, s[at]) {
+    match t.begins(s[at]) {
         Family::Spaces => Step {
             kind: TokenKind::WHITESPACE,
             end: lex_classes::skip_ws(s, at + 1, t),
@@ -58,10 +57,9 @@ pub fn parse_kind(s: &[u8], at: usize, settings: Settings, t: &[u8; 256]) -> Ste
 }
 
 // The same as `parse_kind`, for a loop over many tokens. Its answer is taken apart, so that it stays in registers.
-pub fn step_at(s: &[u8], at: usize, settings: Settings, t: &[u8; 256]) -> Step
+pub fn step_at(s: &[u8], at: usize, settings: Settings, t: &Table) -> Step
     requires at_in_bounds { at < length s.now }
     requires well_formed { WellFormed (drop at s.now) }
-    requires classes { Classes t.now }
     ensures { Stepped settings s.now at result }
 {
     let step = quick(s, at, t);
@@ -78,17 +76,16 @@ pub fn step_at(s: &[u8], at: usize, settings: Settings, t: &[u8; 256]) -> Step
 // A word, white space, a parenthesis or other punctuation: what most tokens are, and the settings say nothing of. 0
 // where it is none of these. With one caller, it becomes part of the loop that calls it.
 #[tactic(auto, using(crate::proofs::QuickLaws::quicks))]
-fn quick(s: &[u8], at: usize, t: &[u8; 256]) -> Step
+fn quick(s: &[u8], at: usize, t: &Table) -> Step
     requires at_in_bounds { at < length s.now }
     requires well_formed { WellFormed (drop at s.now) }
-    requires classes { Classes t.now }
     ensures { Quick s.now at result }
 {
     let b = s[at];
-    if lex_classes::is_idchar(t, b) {
+    if t.is_idchar(b) {
         return quick_word(s, at, t);
     }
-    match lex_classes::begins(t, b) {
+    match t.begins(b) {
         Family::Spaces => Step {
             kind: TokenKind::WHITESPACE,
             end: lex_classes::skip_ws(s, at + 1, t),
@@ -126,10 +123,9 @@ fn quick_paren(s: &[u8], at: usize) -> Step
 
 // A word, unless a quotation mark follows it: its first idchar is seen already.
 #[tactic(auto, using(crate::proofs::QuickLaws::quicks))]
-fn quick_word(s: &[u8], at: usize, t: &[u8; 256]) -> Step
+fn quick_word(s: &[u8], at: usize, t: &Table) -> Step
     requires at_an_idchar { (at < length s.now) × (idchar (get_or s.now at 0) ≡ true) }
     requires well_formed { WellFormed (drop at s.now) }
-    requires classes { Classes t.now }
     ensures { Quick s.now at result }
 {
     let i = lex_classes::idchars_end(s, at + 1, t);
@@ -213,10 +209,9 @@ fn comment(s: &[u8], at: usize, end: usize, kind: u16, settings: Settings) -> St
 
 // A token that is a run: idchars alone, idchars and one string, or more.
 #[tactic(auto, using(crate::proofs::ReservedLaws::word_some))]
-fn parse_reserved(s: &[u8], at: usize, settings: Settings, t: &[u8; 256]) -> Step
+fn parse_reserved(s: &[u8], at: usize, settings: Settings, t: &Table) -> Step
     requires at_a_run { (at < length s.now) × (model.family (get_or s.now at 0) ≡ Family.Run) }
     requires well_formed { WellFormed (drop at s.now) }
-    requires classes { Classes t.now }
     ensures { result ≡ step_of at (model.lex_by settings Family.Run (drop at s.now)) }
 {
     let i = lex_classes::idchars_end(s, at, t);
@@ -249,10 +244,9 @@ fn parse_reserved(s: &[u8], at: usize, settings: Settings, t: &[u8; 256]) -> Ste
 // The run of idchars and strings from `at` on.
 // https://webassembly.github.io/spec/core/text/values.html#text-string
 #[tactic(auto, using(crate::proofs::RunLaws::ran_none))]
-pub fn parse_run(s: &[u8], at: usize, settings: Settings, t: &[u8; 256]) -> RunEnd
+pub fn parse_run(s: &[u8], at: usize, settings: Settings, t: &Table) -> RunEnd
     requires at_in_bounds { at ≤ length s.now }
     requires well_formed { WellFormed (drop at s.now) }
-    requires classes { Classes t.now }
     ensures { result ≡ run.on at
         (run.walk settings (suc (length (drop at s.now))) (drop at s.now)) }
 {

@@ -5,18 +5,17 @@ ghost use Rattle.wat.specs.declared.Number.TheVariants.{Neither};
 ghost use Rattle.wat.specs.Cases.{kind_number};
 ghost use Rattle.wat.specs.NumberModel.{classify};
 ghost use Rattle.wat.specs.LexModel.{word_kind};
-ghost use Rattle.lex_classes.specs.Table.{Classes};
 ghost use Rattle.wat_laws.proofs.RunKinds.{quoted_by};
 ghost use Rattle.lex_token.specs.Fronts.{lettered};
 
+use lex_classes::Table;
 use wat::{FloatKind, IntegerKind, Number, TokenKind};
 
 // The number of the kind of the idchars from `at` to `end`. Their front tells most: with `$` no number begins, with a
 // letter few do, and digits alone are an integer.
 #[tactic(auto, using(crate::proofs::FrontLaws::fronts))]
-pub fn word_kind(s: &[u8], at: usize, end: usize, t: &[u8; 256]) -> u16
+pub fn word_kind(s: &[u8], at: usize, end: usize, t: &Table) -> u16
     requires at_lt_end { (at < end) × (end ≤ length s.now) }
-    requires classes { Classes t.now }
     ensures { result ≡ kind_number
         (word_kind (classify (slice at end s.now)) (get_or s.now at 0)) }
 {
@@ -24,7 +23,7 @@ pub fn word_kind(s: &[u8], at: usize, end: usize, t: &[u8; 256]) -> u16
     if b == b'$' {
         return TokenKind::ID;
     }
-    if lex_classes::is_letter(t, b) {
+    if t.is_letter(b) {
         if end - at < 2 {
             return TokenKind::KEYWORD;
         }
@@ -32,7 +31,7 @@ pub fn word_kind(s: &[u8], at: usize, end: usize, t: &[u8; 256]) -> u16
             return TokenKind::KEYWORD;
         }
     }
-    if lex_classes::is_digit(t, false, b) {
+    if t.is_digit(false, b) {
         if end <= lex_classes::digits_end(s, at + 1, t) {
             return TokenKind::INTEGER;
         }
@@ -49,8 +48,7 @@ fn may_be_number(b: u8, c: u8) -> bool
 
 // The number of the kind of a word, by the number that it is and its first byte.
 // https://webassembly.github.io/spec/core/text/values.html#integers
-fn named_kind(n: Number, b: u8, t: &[u8; 256]) -> u16
-    requires { Classes t.now }
+fn named_kind(n: Number, b: u8, t: &Table) -> u16
     ensures { result ≡ kind_number (word_kind n b) }
 {
     match n {
@@ -87,8 +85,7 @@ fn named_kind(n: Number, b: u8, t: &[u8; 256]) -> u16
 // https://webassembly.github.io/spec/core/text/values.html#text-id
 // https://webassembly.github.io/spec/core/text/lexical.html#text-keyword
 #[tactic(auto, using(crate::proofs::KindLaws::plains))]
-fn plain_kind(b: u8, t: &[u8; 256]) -> u16
-    requires { Classes t.now }
+fn plain_kind(b: u8, t: &Table) -> u16
     ensures { result ≡ kind_number (word_kind Neither b) }
 {
     if b == b'$' {
@@ -97,7 +94,7 @@ fn plain_kind(b: u8, t: &[u8; 256]) -> u16
     if b == b'@' {
         return TokenKind::ANNOTATION;
     }
-    if lex_classes::is_letter(t, b) {
+    if t.is_letter(b) {
         return TokenKind::KEYWORD;
     }
     TokenKind::RESERVED

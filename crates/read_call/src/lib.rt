@@ -5,6 +5,7 @@
 
 ghost use Rattle.read_call.specs.ByNumber.{ReadBy};
 
+use lex_classes::Table;
 use read_token::TokenCheck;
 use wat::{Refusal, Token};
 use wat_values::{FloatPart, NO_PLACE, Reading};
@@ -23,7 +24,7 @@ pub fn read(text: &[u8], reader: u64, token: Token, buffer: &mut [u8]) -> Readin
         7 => read_float::part(text, token, FloatPart::Exponent, buffer),
         8 => read_float::part(text, token, FloatPart::Payload, buffer),
         _ => {
-            let t = lex_classes::table();
+            let t = Table::new();
             match read_token::present(text, token, &t) {
                 TokenCheck::There => Reading::Refused {
                     refusal: Refusal::NotThatKind,

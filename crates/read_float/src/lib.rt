@@ -6,6 +6,7 @@ ghost use Rattle.wat_values.specs.declared.FloatPart.TheVariants.{Integral, Frac
 ghost use Rattle.wat_values.specs.Values.{float};
 ghost use Rattle.wat_values.specs.Reading.{Read, ReadsNegative};
 
+use lex_classes::Table;
 use read_token::NumberKind;
 use wat::{FloatKind, Refusal, Token};
 use wat_values::{FloatPart, FloatSign, NO_PLACE, Reading};
@@ -15,7 +16,7 @@ use wat_values::{FloatPart, FloatSign, NO_PLACE, Reading};
 pub fn part(text: &[u8], token: Token, which: FloatPart, buffer: &mut [u8]) -> Reading
     ensures { Read (float which) text.now token buffer.old result buffer.new }
 {
-    let t = lex_classes::table();
+    let t = Table::new();
     match read_token::number_kind(text, token, &t) {
         NumberKind::Refused { refusal, place } => Reading::Refused { refusal, place },
         NumberKind::Integer(_) => Reading::Refused {
@@ -63,7 +64,7 @@ pub fn payload(text: &[u8], token: Token, buffer: &mut [u8]) -> Reading
 pub fn float_sign(text: &[u8], token: Token) -> FloatSign
     ensures { ReadsNegative text.now token result }
 {
-    let t = lex_classes::table();
+    let t = Table::new();
     match read_token::number_kind(text, token, &t) {
         NumberKind::Refused { refusal, place } => FloatSign::Refused { refusal, place },
         NumberKind::Integer(_) => FloatSign::Refused {

@@ -5,6 +5,7 @@
 ghost use Rattle.wat_values.specs.Values.{Reader};
 ghost use Rattle.wat_values.specs.Reading.{Read, ReadsSign};
 
+use lex_classes::Table;
 use read_token::NumberKind;
 use wat::{Refusal, Token};
 use wat_values::{IntegerSign, NO_PLACE, Reading};
@@ -14,7 +15,7 @@ use wat_values::{IntegerSign, NO_PLACE, Reading};
 pub fn integer(text: &[u8], token: Token, buffer: &mut [u8]) -> Reading
     ensures { Read Reader.digits text.now token buffer.old result buffer.new }
 {
-    let t = lex_classes::table();
+    let t = Table::new();
     match read_token::number_kind(text, token, &t) {
         NumberKind::Refused { refusal, place } => Reading::Refused { refusal, place },
         NumberKind::Float(_) => Reading::Refused {
@@ -34,7 +35,7 @@ pub fn integer(text: &[u8], token: Token, buffer: &mut [u8]) -> Reading
 pub fn integer_sign(text: &[u8], token: Token) -> IntegerSign
     ensures { ReadsSign text.now token result }
 {
-    let t = lex_classes::table();
+    let t = Table::new();
     match read_token::number_kind(text, token, &t) {
         NumberKind::Refused { refusal, place } => IntegerSign::Refused { refusal, place },
         NumberKind::Float(_) => IntegerSign::Refused {

@@ -3,19 +3,18 @@
 #![tactic(auto)]
 
 ghost use Rattle.std.specs.Prelude.{◌≡◌, take, drop};
-ghost use Rattle.lex_classes.specs.Table.{Classes};
 ghost use Rattle.wat_values.specs.Values.{empty_name};
 ghost use Rattle.read_names.specs.Names.{Quoted, Quotes, tail, Sigiled, NameHanded};
 
+use lex_classes::Table;
 use wat::{Checked, LexError, Refusal};
 use wat_values::{NO_PLACE, NameKind, NameReading, Reading};
 
 // The string of `len` bytes at a place: what stands between its quotes, or a copy if it has an escape. The copy is
 // measured first, so that 32 changes no byte.
 #[tactic(auto, using(crate::proofs::QuotedLaws::quotes))]
-pub fn quoted(text: &[u8], at: usize, len: usize, buffer: &mut [u8], t: &[u8; 256]) -> Reading
+pub fn quoted(text: &[u8], at: usize, len: usize, buffer: &mut [u8], t: &Table) -> Reading
     requires quoted { Quoted text.now at len }
-    requires classes { Classes t.now }
     ensures { Quotes (take len (drop at text.now)) at buffer.old result buffer.new }
 {
     if !lex_strings::has_escape(text, at, at + len) {
@@ -54,10 +53,9 @@ pub fn name(
     len: usize,
     kind: NameKind,
     buffer: &mut [u8],
-    t: &[u8; 256],
+    t: &Table,
 ) -> NameReading
     requires sigiled { Sigiled kind text.now offset len }
-    requires classes { Classes t.now }
     ensures { NameHanded kind (tail text.now offset len) offset buffer.old result
         buffer.new }
 {

@@ -12,10 +12,10 @@ ghost use Rattle.wat.specs.Numbers.{IsFloat};
 ghost use Rattle.wat.specs.Tokens.{Tok};
 ghost use Rattle.wat_values.specs.declared.FloatPart.TheVariants.{Fraction, Exponent};
 ghost use Rattle.wat_values.specs.Values.{Reader};
-ghost use Rattle.lex_classes.specs.Table.{Classes};
 ghost use Rattle.lex_numbers.specs.Places.{Skipped};
 ghost use Rattle.read_parts.specs.Handing.{At, Payload, Left, Leaves, Hands, HandsWhole, HandsPayload};
 
+use lex_classes::Table;
 use lex_numbers::Skip;
 use wat::{FloatKind, Sign};
 use wat_values::{FloatPart, Reading};
@@ -29,10 +29,9 @@ pub fn float(
     kind: FloatKind,
     part: FloatPart,
     buffer: &mut [u8],
-    t: &[u8; 256],
+    t: &Table,
 ) -> Reading
     requires at { At (Tok (Float kind)) text.now at end }
-    requires classes { Classes t.now }
     ensures { Hands (Reader.float part) (Float kind) text.now at end buffer.old result
         buffer.new }
 {
@@ -63,10 +62,9 @@ pub fn whole(
     hex: bool,
     underscores: bool,
     buffer: &mut [u8],
-    t: &[u8; 256],
+    t: &Table,
 ) -> Reading
     requires at { At (IsFloat hex) text.now at end }
-    requires classes { Classes t.now }
     ensures { HandsWhole hex underscores text.now at end buffer.old result
         buffer.new }
 {
@@ -85,10 +83,9 @@ fn fraction(
     hex: bool,
     underscores: bool,
     buffer: &mut [u8],
-    t: &[u8; 256],
+    t: &Table,
 ) -> Reading
     requires at { At (Tok (Float (Normal underscores hex))) text.now at end }
-    requires classes { Classes t.now }
     ensures { Hands (Reader.float Fraction) (Float (Normal underscores hex)) text.now at end
         buffer.old result buffer.new }
 {
@@ -108,10 +105,9 @@ fn exponent(
     hex: bool,
     underscores: bool,
     buffer: &mut [u8],
-    t: &[u8; 256],
+    t: &Table,
 ) -> Reading
     requires at { At (Tok (Float (Normal underscores hex))) text.now at end }
-    requires classes { Classes t.now }
     ensures { Hands (Reader.float Exponent) (Float (Normal underscores hex)) text.now at end
         buffer.old result buffer.new }
 {
@@ -148,9 +144,8 @@ pub fn past_prefix(text: &[u8], at: usize, end: usize, hex: bool) -> usize
 }
 
 // Past the digits before the point.
-fn past_whole(text: &[u8], at: usize, end: usize, hex: bool, t: &[u8; 256]) -> usize
+fn past_whole(text: &[u8], at: usize, end: usize, hex: bool, t: &Table) -> usize
     requires at { At (IsFloat hex) text.now at end }
-    requires classes { Classes t.now }
     ensures { Leaves hex text.now at end (λ p f e. f ++ e) result }
 {
     let from = past_prefix(text, at, end, hex);

@@ -7,6 +7,7 @@ ghost use Rattle.std.specs.Prelude.{[]};
 ghost use Rattle.wat_values.specs.Values.{Reader};
 ghost use Rattle.wat_values.specs.Reading.{Read, ReadsName};
 
+use lex_classes::Table;
 use read_token::{NameCheck, TokenCheck};
 use wat::{Token, TokenKind};
 use wat_values::{NameReading, Reading};
@@ -16,7 +17,7 @@ use wat_values::{NameReading, Reading};
 pub fn src(text: &[u8], token: Token) -> Reading
     ensures { Read Reader.src text.now token [] result [] }
 {
-    let t = lex_classes::table();
+    let t = Table::new();
     match read_token::present(text, token, &t) {
         TokenCheck::Refused { refusal, place } => Reading::Refused { refusal, place },
         TokenCheck::There => Reading::Text {
@@ -31,7 +32,7 @@ pub fn src(text: &[u8], token: Token) -> Reading
 pub fn string(text: &[u8], token: Token, buffer: &mut [u8]) -> Reading
     ensures { Read Reader.string text.now token buffer.old result buffer.new }
 {
-    let t = lex_classes::table();
+    let t = Table::new();
     match read_token::taken(text, token, TokenKind::String, &t) {
         TokenCheck::Refused { refusal, place } => Reading::Refused { refusal, place },
         TokenCheck::There => {
@@ -47,7 +48,7 @@ pub fn string(text: &[u8], token: Token, buffer: &mut [u8]) -> Reading
 pub fn name(text: &[u8], token: Token, buffer: &mut [u8]) -> NameReading
     ensures { ReadsName text.now token buffer.old result buffer.new }
 {
-    let t = lex_classes::table();
+    let t = Table::new();
     match read_token::name_kind(text, token, &t) {
         NameCheck::Refused { refusal, place } => NameReading::Refused { refusal, place },
         NameCheck::Named(kind) => {

@@ -5,9 +5,9 @@
 ghost use Rattle.std.specs.Prelude.{◌≡◌, true};
 ghost use Rattle.wat.specs.Calls.{Stands};
 ghost use Rattle.wat_values.specs.Reading.{There};
-ghost use Rattle.lex_classes.specs.Table.{Classes};
 ghost use Rattle.read_token.specs.Here.{Here, Taken, HereNumber, HereName};
 
+use lex_classes::Table;
 use lex_entry::Entry;
 use wat::{FloatKind, IntegerKind, Refusal, Settings, Token, TokenKind};
 use wat_values::{NO_PLACE, NameKind};
@@ -20,8 +20,7 @@ pub enum TokenCheck {
 }
 
 #[tactic(auto, using(crate::proofs::PresentLaws::presents))]
-pub fn present(text: &[u8], token: Token, t: &[u8; 256]) -> TokenCheck
-    requires { Classes t.now }
+pub fn present(text: &[u8], token: Token, t: &Table) -> TokenCheck
     ensures { Here text.now token result }
 {
     if alone(text, token, t) {
@@ -35,8 +34,7 @@ pub fn present(text: &[u8], token: Token, t: &[u8; 256]) -> TokenCheck
 }
 
 // Whether the token is the whole of the text, and a word or a plain string, and so is there: no other check is needed.
-fn alone(text: &[u8], token: Token, t: &[u8; 256]) -> bool
-    requires { Classes t.now }
+fn alone(text: &[u8], token: Token, t: &Table) -> bool
     ensures { result ≡ true → There text.now token }
 {
     let n = text.len();
@@ -55,9 +53,8 @@ fn alone(text: &[u8], token: Token, t: &[u8; 256]) -> bool
 
 // 30, at an offset that stands: lexing there, leniently, gives another kind or another length, or nothing.
 #[tactic(auto, using(crate::proofs::PresentLaws::presents))]
-fn present_at(text: &[u8], token: Token, t: &[u8; 256]) -> TokenCheck
+fn present_at(text: &[u8], token: Token, t: &Table) -> TokenCheck
     requires stands { Stands text.now token.offset }
-    requires classes { Classes t.now }
     ensures { Here text.now token result }
 {
     let offset = token.offset;
@@ -86,8 +83,7 @@ fn present_at(text: &[u8], token: Token, t: &[u8; 256]) -> TokenCheck
 
 // As `present`, and then 31: its kind is not the one wanted.
 #[tactic(auto, using(crate::proofs::KindLaws::takens))]
-pub fn taken(text: &[u8], token: Token, wanted: TokenKind, t: &[u8; 256]) -> TokenCheck
-    requires { Classes t.now }
+pub fn taken(text: &[u8], token: Token, wanted: TokenKind, t: &Table) -> TokenCheck
     ensures { Taken text.now token wanted result }
 {
     match present(text, token, t) {
@@ -114,8 +110,7 @@ pub enum NumberKind {
 }
 
 #[tactic(auto, using(crate::proofs::KindLaws::numbers))]
-pub fn number_kind(text: &[u8], token: Token, t: &[u8; 256]) -> NumberKind
-    requires { Classes t.now }
+pub fn number_kind(text: &[u8], token: Token, t: &Table) -> NumberKind
     ensures { HereNumber text.now token result }
 {
     match present(text, token, t) {
@@ -142,8 +137,7 @@ pub enum NameCheck {
 }
 
 #[tactic(auto, using(crate::proofs::KindLaws::names))]
-pub fn name_kind(text: &[u8], token: Token, t: &[u8; 256]) -> NameCheck
-    requires { Classes t.now }
+pub fn name_kind(text: &[u8], token: Token, t: &Table) -> NameCheck
     ensures { HereName text.now token result }
 {
     let kind = token.kind;

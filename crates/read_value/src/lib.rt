@@ -10,6 +10,7 @@ ghost use Rattle.wat_values.specs.IntegerModel.{amount};
 ghost use Rattle.read_parts.specs.Handing.{At};
 ghost use Rattle.read_value.specs.Amounts.{Amounts, greatest, word_of};
 
+use lex_classes::Table;
 use read_token::NumberKind;
 use wat::{IntegerKind, Refusal, Sign, Token};
 use wat_values::{IntegerValue, NO_PLACE};
@@ -33,7 +34,7 @@ pub fn integer_64(text: &[u8], token: Token) -> IntegerValue
 fn integer_word(text: &[u8], token: Token, max: u64) -> IntegerValue
     ensures { (N : ℕ) → 2 ^ N ≡ max + 1 → ReadsWord N text.now token result }
 {
-    let t = lex_classes::table();
+    let t = Table::new();
     match read_token::number_kind(text, token, &t) {
         NumberKind::Refused { refusal, place } => IntegerValue::Refused { refusal, place },
         NumberKind::Float(_) => IntegerValue::Refused {

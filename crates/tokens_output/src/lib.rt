@@ -9,6 +9,7 @@ ghost use Rattle.tokens_lines.specs.Lines.{header};
 ghost use Rattle.tokens_output.specs.Front.{Front, room};
 ghost use Rattle.tokens_output.specs.Output.{Output, longest};
 
+use lex_classes::Table;
 use lex_entry::Entry;
 use wat::{Answer, Refusal, Settings};
 
@@ -25,7 +26,7 @@ fn render_from(text: &[u8], out: &mut [u8], from: usize) -> usize
         × (room ≤ length out.old) × Front out.old header from }
     ensures { Output text.now (take result out.new) × IsPrefixLen result out.new }
 {
-    let t = lex_classes::table();
+    let t = Table::new();
     let mut end = from;
     let mut at: usize = 0;
     let mut count: usize = 0;

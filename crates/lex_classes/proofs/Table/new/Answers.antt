@@ -6,8 +6,8 @@ use Rattle.wat.specs.Numbers.{digit}
 use Rattle.wat.specs.LexModel.{family}
 use Rattle.lex_classes.specs.Ask.{raw}
 use Rattle.lex_classes.proofs.TableLaws.{classes}
-use Rattle.lex_classes.proofs.table.Goals as goal
+use Rattle.lex_classes.proofs.Table.new.Goals as goal
 
-pub returns : goal.returns
+pub invariant_of-result : goal.invariant_of-result
 unfolding space idchar letter control punctuation digit family raw between has
-returns c = classes _ refl
+invariant_of-result c = record { answers = classes _ refl }
