@@ -4,8 +4,8 @@ ghost use Rattle.std.specs.Prelude.{◌≡◌, ◌<◌, length, get_or};
 ghost use Rattle.wat.specs.Bytes.{byte};
 ghost use Rattle.lex_token.specs.Alone.{Alone};
 
-use lex_classes::Table;
 use super::word_kinds;
+use lex_classes::Table;
 use wat::TokenKind;
 
 // The number of the kind of a text that is one such string, or one word; 0 where it is neither.

@@ -3,12 +3,12 @@ use Rattle.read_parts.proofs.PartLaws.{leaves_within, fraction_ends, fraction_or
 use Rattle.read_parts.proofs.FloatLaws.{normal_at, gaps}
 use Rattle.read_parts.proofs.fraction.Goals as goal
 
-pub past_whole-dot-requires-clause-at : goal.past_whole-dot-requires-clause-at
-past_whole-dot-requires-clause-at c = normal_at c.requires.at refl
+pub past_whole-dot-requires : goal.past_whole-dot-requires
+past_whole-dot-requires c = record { at = normal_at c.requires.at refl }
 
-pub fraction_at-requires-clause-at_le_end : goal.fraction_at-requires-clause-at_le_end
-fraction_at-requires-clause-at_le_end c =
-    (leaves_within (normal_at c.requires.at refl) (λ p f e. f ++ e) c.past_whole-dot.ensures, c.requires.at.fits)
+pub fraction_at-requires : goal.fraction_at-requires
+fraction_at-requires c =
+    record { at_le_end = (leaves_within (normal_at c.requires.at refl) (λ p f e. f ++ e) c.past_whole-dot.ensures, c.requires.at.fits) }
 
 pub overflow_sub-to : goal.overflow_sub-to
 overflow_sub-to c =
