@@ -15,7 +15,7 @@ ghost use Rattle.lex_token.specs.Steps.{Faults};
 use codes::MaybeKind;
 use lex_classes::Table;
 use lex_entry::Entry;
-use utf8_chars::Decoded;
+use utf8_chars::Char;
 use wat::{
     Answer, Family, Fault, Found, Hidden, LexError, Parsed, Refusal, RunEnd, Settings, Token,
     TokenKind,
@@ -174,12 +174,12 @@ fn unexpected(s: &[u8], at: usize) -> Fault
     ensures { Faults at (model.other_by (peek (drop at s.now))) result }
 {
     match utf8_chars::decode(s, at) {
-        Decoded::Char { value, len: _ } => Fault {
+        Some(Char { value, len: _ }) => Fault {
             error: LexError::Unexpected(value),
             place: at,
             after: at,
         },
-        Decoded::Nothing => no_error(at),
+        None => no_error(at),
     }
 }
 

@@ -11,7 +11,7 @@ ghost use Rattle.utf8_chars.specs.Decoding.{Decodes};
 ghost use Rattle.lex_escapes.specs.Elements.{letter_of, Says};
 
 use lex_classes::Table;
-use utf8_chars::Decoded;
+use utf8_chars::Char;
 use wat::{Fault, LexError, Settings};
 
 mod unicode;
@@ -48,7 +48,7 @@ pub fn element(s: &[u8], at: usize, settings: Settings, t: &Table) -> Read
     if b == b'\\' {
         return escape(s, at, settings, t);
     }
-    let value = wide(b);
+    let value = u32::from(b);
     if t.is_control(value) {
         return Read::Refused(Fault {
             error: LexError::InvalidStringElement(value),
@@ -65,7 +65,7 @@ fn wide_element(s: &[u8], at: usize, settings: Settings) -> Read
     requires { 0x80 ≤ get_or s.now at 0 }
     ensures { Says (drop at s.now) (model.read settings (drop at s.now)) result }
 {
-    let Decoded::Char { value, len } = utf8_chars::decode(s, at) else {
+    let Some(Char { value, len }) = utf8_chars::decode(s, at) else {
         return Read::Refused(Fault {
             error: LexError::UnexpectedEof,
             place: 0,
@@ -100,14 +100,14 @@ fn escape(s: &[u8], at: usize, settings: Settings, t: &Table) -> Read
     ensures { Says (drop at s.now)
         (model.escape_by settings (model.peek (drop (at + 1) s.now))) result }
 {
-    let Decoded::Char { value, len } = must_char(s, at + 1) else {
+    let Some(Char { value, len }) = must_char(s, at + 1) else {
         return Read::Refused(Fault {
             error: LexError::UnexpectedEof,
             place: 1,
             after: 1,
         });
     };
-    if value == b'u' as u32 {
+    if value == u32::from(b'u') {
         return unicode::open_brace(s, at, settings, t);
     }
     let v = letter(value);
@@ -148,7 +148,7 @@ fn second_digit(s: &[u8], at: usize, high: u8, t: &Table) -> Read
     ensures { Says (drop at s.now)
         (model.second_by high (model.peek (drop (at + 2) s.now))) result }
 {
-    let Decoded::Char { value, len } = must_char(s, at + 2) else {
+    let Some(Char { value, len }) = must_char(s, at + 2) else {
         return Read::Refused(Fault {
             error: LexError::UnexpectedEof,
             place: 2,
@@ -171,24 +171,18 @@ fn second_digit(s: &[u8], at: usize, high: u8, t: &Table) -> Read
 
 // The next character, or nothing. An ASCII one needs no decoding.
 #[tactic(auto, using(utf8_chars::proofs::DecodeLaws::decoded_end))]
-pub fn must_char(s: &[u8], at: usize) -> Decoded
+pub fn must_char(s: &[u8], at: usize) -> Option<Char>
     ensures { Decodes s.now at result }
 {
     if s.len() <= at {
-        return Decoded::Nothing;
+        return None;
     }
     let b = s[at];
     if b < 0x80 {
-        return Decoded::Char {
-            value: wide(b),
+        return Some(Char {
+            value: u32::from(b),
             len: 1,
-        };
+        });
     }
     utf8_chars::decode(s, at)
-}
-
-pub fn wide(x: u8) -> u32
-    ensures { result ≡ x }
-{
-    x as u32
 }

@@ -4,9 +4,9 @@ ghost use Rattle.wat.specs.Chars.{is_scalar};
 ghost use Rattle.wat.specs.StringModel as model;
 ghost use Rattle.lex_escapes.specs.Elements.{consumed, Counted, Says};
 
-use super::{Read, must_char, wide};
+use super::{Read, must_char};
 use lex_classes::Table;
-use utf8_chars::Decoded;
+use utf8_chars::Char;
 use wat::{Fault, LexError, Num, Settings};
 
 // After `\u`: the Rust's `must_eat_char` for `{`.
@@ -16,19 +16,19 @@ pub fn open_brace(s: &[u8], at: usize, settings: Settings, t: &Table) -> Read
     ensures { Says (drop at s.now)
         (model.brace_by settings (model.peek (drop (at + 2) s.now))) result }
 {
-    let Decoded::Char { value, len } = must_char(s, at + 2) else {
+    let Some(Char { value, len }) = must_char(s, at + 2) else {
         return Read::Refused(Fault {
             error: LexError::UnexpectedEof,
             place: 2,
             after: 2,
         });
     };
-    if value == b'{' as u32 {
+    if value == u32::from(b'{') {
         return first_digit(s, at, settings, t);
     }
     Read::Refused(Fault {
         error: LexError::Expected {
-            wanted: b'{' as u32,
+            wanted: u32::from(b'{'),
             found: value,
         },
         place: 2,
@@ -43,7 +43,7 @@ fn first_digit(s: &[u8], at: usize, settings: Settings, t: &Table) -> Read
     ensures { Says (drop at s.now)
         (model.first_by settings (model.peek (drop (at + 3) s.now))) result }
 {
-    let Decoded::Char { value, len } = must_char(s, at + 3) else {
+    let Some(Char { value, len }) = must_char(s, at + 3) else {
         return Read::Refused(Fault {
             error: LexError::UnexpectedEof,
             place: 3,
@@ -52,7 +52,7 @@ fn first_digit(s: &[u8], at: usize, settings: Settings, t: &Table) -> Read
     };
     let d = t.to_hex(value);
     if d < 16 {
-        return unicode_value(s, at, wide(d), settings, t);
+        return unicode_value(s, at, u32::from(d), settings, t);
     }
     Read::Refused(Fault {
         error: LexError::InvalidHexDigit(value),
@@ -105,10 +105,12 @@ fn close_brace(s: &[u8], at: usize, value: u32, len: usize) -> Read
     ensures { Says (drop at s.now)
         (model.close_by value len (model.peek (drop (at + (3 + len)) s.now))) result }
 {
-    let Decoded::Char {
-        value: found,
-        len: n,
-    } = must_char(s, at + (3 + len))
+    let Some(
+        Char {
+            value: found,
+            len: n,
+        },
+    ) = must_char(s, at + (3 + len))
     else {
         return Read::Refused(Fault {
             error: LexError::UnexpectedEof,
@@ -116,7 +118,7 @@ fn close_brace(s: &[u8], at: usize, value: u32, len: usize) -> Read
             after: 3 + len,
         });
     };
-    if found == b'}' as u32 {
+    if found == u32::from(b'}') {
         return Read::Char {
             value,
             len: 4 + len,
@@ -124,7 +126,7 @@ fn close_brace(s: &[u8], at: usize, value: u32, len: usize) -> Read
     }
     Read::Refused(Fault {
         error: LexError::Expected {
-            wanted: b'}' as u32,
+            wanted: u32::from(b'}'),
             found,
         },
         place: 3 + len,
@@ -152,14 +154,14 @@ fn hexnum(s: &[u8], at: usize, first: u32, settings: Settings, t: &Table) -> Num
             under = true;
             i += 1;
         } else {
-            let d = t.to_hex(wide(b));
+            let d = t.to_hex(u32::from(b));
             if 16 <= d {
                 return close(under, value, 1 + (i - at));
             }
             if 0x1000_0000 <= value {
                 return Num::Big(1 + (i - at));
             }
-            value = value * 16 + wide(d);
+            value = value * 16 + u32::from(d);
             under = false;
             i += 1;
         }

@@ -1,9 +1,8 @@
 -- What `decode` answers: the character at a place of a text.
-use Rattle.std.specs.Prelude.{◌≡◌, ℕ, ◌+◌, ◌<◌, ◌≤◌, List, length, take, drop}
+use Rattle.std.specs.Prelude.{◌≡◌, ℕ, ◌+◌, ◌<◌, ◌≤◌, Option, Some, None, List, length, take, drop}
 use Rattle.wat.specs.Utf8.{Char, scalar}
 use Rattle.wat.specs.StringModel.{char, nothing, peek}
-use Rattle.utf8_chars.specs.declared.Decoded.{Decoded}
-use Rattle.utf8_chars.specs.declared.Decoded.TheVariants as decoded
+use Rattle.utf8_chars.specs.declared.Char as declared
 
 -- the first n bytes of what is left from a place are a character, and its scalar value is v
 pub record Character (s : List ℕ) (at v n : ℕ) : Type 0 where
@@ -16,6 +15,6 @@ pub record Character (s : List ℕ) (at v n : ℕ) : Type 0 where
   pub fits : at + n ≤ length s
   pub small : v < 0x110000
 
-abbrev pub Decodes : List ℕ → ℕ → Decoded → Type 0
-Decodes s at (decoded.Char v n) = Character s at v n
-Decodes s at decoded.Nothing = peek (drop at s) ≡ nothing
+abbrev pub Decodes : List ℕ → ℕ → Option declared.Char → Type 0
+Decodes s at (Some c) = Character s at c.value c.len
+Decodes s at None = peek (drop at s) ≡ nothing

@@ -13,22 +13,16 @@ ghost use Rattle.utf8_chars.specs.Boundary.{Boundary};
 use wat::Front;
 
 // The character at a place: its scalar value and its length in bytes.
-#[derive(Clone, Copy)]
-pub enum Decoded {
-    Char { value: u32, len: usize },
-    Nothing,
+#[derive(Clone, Copy, PartialEq, Eq)]
+pub struct Char {
+    pub value: u32,
+    pub len: usize,
 }
 
 fn within(b: u8, lo: u8, hi: u8) -> bool
     ensures { result ≡ has (lo ‥ hi) b }
 {
-    if b < lo {
-        return false;
-    }
-    if hi < b {
-        return false;
-    }
-    true
+    (lo..=hi).contains(&b)
 }
 
 // The third byte of a character, and the fourth if n is 2.
@@ -110,18 +104,12 @@ pub fn front_at(s: &[u8], at: usize) -> Front
     Front::Wrong(1)
 }
 
-fn wide(x: u8) -> u32
-    ensures { result ≡ x }
-{
-    x as u32
-}
-
 // The six bits that a byte after the first has of a scalar value.
 fn six_bits(s: &[u8], at: usize) -> u32
     requires { at < length s.now }
     ensures { result ≡ slice_index s.now at % 0x40 }
 {
-    wide(s[at]) % 0x40
+    u32::from(s[at]) % 0x40
 }
 
 // The scalar value of the character of n bytes at a place.
@@ -129,7 +117,7 @@ pub fn value(s: &[u8], at: usize, n: usize) -> u32
     requires { (1 ≤ n) × (at + n ≤ length s.now) }
     ensures { result ≡ scalar (take n (drop at s.now)) }
 {
-    let a = wide(s[at]);
+    let a = u32::from(s[at]);
     if n == 1 {
         return a;
     }
@@ -146,19 +134,19 @@ pub fn value(s: &[u8], at: usize, n: usize) -> u32
 }
 
 // The character at a place; nothing at the end, and where no character stands.
-pub fn decode(s: &[u8], at: usize) -> Decoded
+pub fn decode(s: &[u8], at: usize) -> Option<Char>
     ensures { Decodes s.now at result }
 {
     if at >= s.len() {
-        return Decoded::Nothing;
+        return None;
     }
     match front_at(s, at) {
-        Front::Whole(n) => Decoded::Char {
-            value: value(s, at, n),
-            len: n,
-        },
-        Front::Wrong(_) => Decoded::Nothing,
-        Front::Cut => Decoded::Nothing,
+        Front::Whole(len) => Some(Char {
+            value: value(s, at, len),
+            len,
+        }),
+        Front::Wrong(_) => None,
+        Front::Cut => None,
     }
 }
 

@@ -5,4 +5,4 @@ use Rattle.lex_escapes.proofs.must_char.Goals as goal
 pub returns-then-b-lt128 : goal.returns-then-b-lt128
 returns-then-b-lt128 c =
     let a = c.args in
-    ascii_character a.s.now a.at c.wide.result (omega arith) c.if-b-lt128.true c.wide.ensures
+    ascii_character a.s.now a.at c.from.result (omega arith) c.if-b-lt128.true c.from.ensures

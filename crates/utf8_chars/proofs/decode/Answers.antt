@@ -9,13 +9,13 @@ returns-then-at-s c = decoded_end _ _ c.if-at-s.true
 pub value-requires : goal.value-requires
 value-requires c =
     let a = c.args in
-    let f = front_char (drop a.at a.s.now) c.in-Whole.n (sym c.in-Whole.ensures) in
+    let f = front_char (drop a.at a.s.now) c.in-Whole.len (sym c.in-Whole.ensures) in
     omega (arith, length-drop a.at a.s.now)
 
 pub returns-in-Whole : goal.returns-in-Whole
 returns-in-Whole c =
     let a = c.args in
-    decoded_char a.s.now a.at c.value.result c.in-Whole.n (omega arith) (sym c.in-Whole.ensures) c.value.ensures
+    decoded_char a.s.now a.at c.value.result c.in-Whole.len (omega arith) (sym c.in-Whole.ensures) c.value.ensures
 
 pub returns-in-Wrong : goal.returns-in-Wrong
 returns-in-Wrong c = decoded_wrong _ _ (sym c.in-Wrong.ensures)
