@@ -26,9 +26,9 @@ fn append_detail(out: &mut [u8], to: usize, p: Parts) -> usize
     requires { ((k : TokenKind) × Parted k p) × (to + longest_detail ≤ length out.old) }
     ensures { (k : TokenKind) → Parted k p → Added out.old out.new to (detail k) result }
 {
-    let a = tokens_spelt::append_word(out, to, p.first);
-    let b = tokens_spelt::append_word(out, a, p.second);
-    tokens_spelt::append_word(out, b, p.third)
+    let a = buffers::append(out, to, p.first);
+    let b = buffers::append(out, a, p.second);
+    buffers::append(out, b, p.third)
 }
 
 // A number in decimal, and a byte after it.
@@ -52,7 +52,7 @@ pub fn put_line(out: &mut [u8], to: usize, k: TokenKind, offset: usize, len: usi
     ensures { Added out.old out.new to (line k offset len) result }
 {
     let p = tokens_spelt::words_of(k);
-    let a = tokens_spelt::append_word(out, to, p.name);
+    let a = buffers::append(out, to, p.name);
     let b = append_number(out, a, offset, b' ');
     let c = append_number(out, b, len, b' ');
     let d = append_detail(out, c, p);
@@ -82,7 +82,7 @@ pub fn put_error(out: &mut [u8], to: usize, refusal: Refusal, place: usize) -> u
         (last_line (bytes "error ") (number refusal).0 place) result }
 {
     let c = codes::refusal_code(refusal);
-    put_last(out, to, b"error ", c.number as usize, place)
+    put_last(out, to, b"error ", usize::from(c.number), place)
 }
 
 pub fn put_header(out: &mut [u8]) -> usize

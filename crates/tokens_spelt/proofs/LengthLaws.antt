@@ -1,20 +1,18 @@
 -- How long the words of a kind are. Assumes nothing.
-use Prim.Native.Nat.{ℕ, ◌+◌, ◌≤◌}
-use mathlib.Core.Path.{◌≡◌, sym, ap, ◌∙◌}
+use Prim.Native.Nat.{◌+◌, ◌≤◌}
+use mathlib.Core.Path.{ap}
 use mathlib.Core.Bool.{Bool, true, false}
-use mathlib.Core.List.{List, ◌++◌}
+use mathlib.Core.List.{◌++◌}
 use native.Mathlib.Omega.{arith}
-use lib.ListN.{length, drop, length-append, length-drop}
-use lib.Seq.{length-take-le}
+use lib.ListN.{length, length-append}
 use Rattle.wat.specs.declared.{Sign.Sign, TokenKind.TokenKind}
 use Rattle.wat.specs.declared.Sign.TheVariants.{Unsigned, Plus, Minus}
 use Rattle.wat.specs.declared.FloatKind.TheVariants.{Inf, Nan, NanVal, Normal}
 use Rattle.wat.specs.declared.TokenKind.TheVariants as kind
 use Rattle.wat.specs.Bytes.{bytes}
-use Rattle.tokens_spelt.specs.declared.Span.{Span}
 use Rattle.tokens_spelt.specs.declared.Parts.{Parts}
 use Rattle.tokens_spelt.specs.Details.{sign_word, polarity_word, base_word, spelling_word, name, detail, longest_name, longest_detail}
-use Rattle.tokens_spelt.specs.Spelling.{words, Spells, Parted}
+use Rattle.tokens_spelt.specs.Spelling.{Parted}
 
 pub name_short : (k : TokenKind) → length (name k) + 1 ≤ longest_name
 name_short kind.LineComment = omega arith
@@ -68,23 +66,16 @@ detail_short (kind.Float (Nan n)) = omega (arith, polarity_short n)
 detail_short (kind.Float (NanVal n u)) = simp length-append (omega (arith, polarity_short n, spelling_short u))
 detail_short (kind.Float (Normal u h)) = simp length-append (omega (arith, base_short h, spelling_short u))
 
-spells_length : {w : Span} {v : List ℕ} → Spells w v → length v ≡ w.len
-spells_length {w} s =
-    sym (ap length s.is) ∙ length-take-le w.len (drop w.start words) (omega (arith, length-drop w.start words, s.within))
-
 -- how long the words of a line are
 pub record Short (p : Parts) : Type 0 where
-  pub name : p.name.len ≤ longest_name
-  pub detail : p.first.len + p.second.len + p.third.len ≤ longest_detail
+  pub name : length p.name.now ≤ longest_name
+  pub detail : length p.first.now + length p.second.now + length p.third.now ≤ longest_detail
 
 pub parted_short : {k : TokenKind} {p : Parts} → Parted k p → Short p
 parted_short {k} {p} q =
-    let a = spells_length q.first in
-    let b = spells_length q.second in
-    let c = spells_length q.third in
-    let l = length-append q.one (q.two ++ q.three) in
-    let m = length-append q.two q.three in
+    let l = length-append p.first.now (p.second.now ++ p.third.now) in
+    let m = length-append p.second.now p.third.now in
     record {
-      name = omega (arith, spells_length q.name, length-append (name k) (bytes " "), name_short k);
+      name = omega (arith, ap length q.name, length-append (name k) (bytes " "), name_short k);
       detail = omega (arith, detail_short k, ap length q.detail);
     }

@@ -1,113 +1,84 @@
-// The words that `wat-tokens` prints of a kind, its name and its detail: parts of one text in which all words stand.
-// specs/Details.antt says which they are.
+// The words that `wat-tokens` prints of a kind: its name and its detail. specs/Details.antt says which they are.
 
 #![tactic(auto)]
 
-ghost use Rattle.std.specs.Prelude.{ℕ, ◌+◌, ◌≤◌, ◌≡◌, List, ◌++◌, length};
+ghost use Rattle.std.specs.Prelude.{◌≡◌, ◌++◌};
 ghost use Rattle.wat.specs.Bytes.{bytes};
-ghost use Rattle.buffers.specs.Writing.{Added};
 ghost use Rattle.tokens_spelt.specs.Details.{sign_word, polarity_word, base_word, spelling_word};
-ghost use Rattle.tokens_spelt.specs.Spelling.{words, Spells, Parted, Plain};
+ghost use Rattle.tokens_spelt.specs.Spelling.{Parted, Plain};
 
 use wat::{FloatKind, IntegerKind, Sign, TokenKind};
-
-// A part of the text in which all words stand.
-#[derive(Clone, Copy)]
-pub struct Span {
-    pub start: usize,
-    pub len: usize,
-}
 
 // The words of a line: the name with a space, and the detail in at most three.
 #[derive(Clone, Copy)]
 pub struct Parts {
-    pub name: Span,
-    pub first: Span,
-    pub second: Span,
-    pub third: Span,
+    pub name: &'static [u8],
+    pub first: &'static [u8],
+    pub second: &'static [u8],
+    pub third: &'static [u8],
 }
 
-// ---- where each word stands: a name with its space, and a word of a detail with the comma that always follows it
+// ---- each word: a name with its space, and a word of a detail with the comma that always follows it
 
-const LINE_COMMENT: Span = Span { start: 0, len: 13 };
+const LINE_COMMENT: &[u8] = b"line-comment ";
 
-const BLOCK_COMMENT: Span = Span { start: 13, len: 14 };
+const BLOCK_COMMENT: &[u8] = b"block-comment ";
 
-const WHITESPACE: Span = Span { start: 27, len: 11 };
+const WHITESPACE: &[u8] = b"whitespace ";
 
-const LPAREN: Span = Span { start: 38, len: 7 };
+const LPAREN: &[u8] = b"lparen ";
 
-const RPAREN: Span = Span { start: 45, len: 7 };
+const RPAREN: &[u8] = b"rparen ";
 
-const STRING: Span = Span { start: 52, len: 7 };
+const STRING: &[u8] = b"string ";
 
-const ID: Span = Span { start: 59, len: 3 };
+const ID: &[u8] = b"id ";
 
-const KEYWORD: Span = Span { start: 62, len: 8 };
+const KEYWORD: &[u8] = b"keyword ";
 
-const ANNOTATION: Span = Span { start: 70, len: 11 };
+const ANNOTATION: &[u8] = b"annotation ";
 
-const RESERVED: Span = Span { start: 81, len: 9 };
+const RESERVED: &[u8] = b"reserved ";
 
-const INTEGER: Span = Span { start: 90, len: 8 };
+const INTEGER: &[u8] = b"integer ";
 
-const INF: Span = Span { start: 98, len: 4 };
+const INF: &[u8] = b"inf ";
 
-const NAN: Span = Span { start: 102, len: 4 };
+const NAN: &[u8] = b"nan ";
 
-const NAN_VAL: Span = Span { start: 106, len: 8 };
+const NAN_VAL: &[u8] = b"nan-val ";
 
-const NORMAL: Span = Span { start: 114, len: 7 };
+const NORMAL: &[u8] = b"normal ";
 
-const UNSIGNED: Span = Span { start: 121, len: 5 };
+const UNSIGNED: &[u8] = b"none,";
 
-const COMMA: Span = Span { start: 125, len: 1 };
+const COMMA: &[u8] = b",";
 
-const PLUS: Span = Span { start: 126, len: 5 };
+const PLUS: &[u8] = b"plus,";
 
-const MINUS: Span = Span { start: 131, len: 6 };
+const MINUS: &[u8] = b"minus,";
 
-const POS: Span = Span { start: 137, len: 3 };
+const POS: &[u8] = b"pos";
 
-const NEG: Span = Span { start: 140, len: 3 };
+const NEG: &[u8] = b"neg";
 
-const HEX: Span = Span { start: 143, len: 4 };
+const HEX: &[u8] = b"hex,";
 
-const DEC: Span = Span { start: 147, len: 4 };
+const DEC: &[u8] = b"dec,";
 
-const UNDERSCORES: Span = Span {
-    start: 151,
-    len: 11,
-};
+const UNDERSCORES: &[u8] = b"underscores";
 
-const PLAIN: Span = Span { start: 162, len: 5 };
+const PLAIN: &[u8] = b"plain";
 
-const DASH: Span = Span { start: 167, len: 1 };
+const DASH: &[u8] = b"-";
 
-const NOTHING: Span = Span { start: 0, len: 0 };
-
-// Writes a word at a place of a buffer; returns where it ends.
-pub fn append_word(out: &mut [u8], to: usize, w: Span) -> usize
-    requires { (w.start + w.len ≤ length words) × (to + w.len ≤ length out.old) }
-    ensures { ((v : List ℕ) → Spells w v → Added out.old out.new to v result)
-        × (result ≡ to + w.len) }
-{
-    buffers::copy(
-        out,
-        to,
-        b"line-comment block-comment whitespace lparen rparen string id keyword annotation reserved integer inf nan \
-          nan-val normal none,plus,minus,posneghex,dec,underscoresplain-",
-        w.start,
-        w.len,
-    );
-    to + w.len
-}
+const NOTHING: &[u8] = b"";
 
 // ---- the words of a kind
 
 // A kind whose name is w and whose detail is `-`.
-fn plain(w: Span) -> Parts
-    ensures { Plain w result }
+fn plain(w: &'static [u8]) -> Parts
+    ensures { Plain w.now result }
 {
     Parts {
         name: w,
@@ -117,8 +88,8 @@ fn plain(w: Span) -> Parts
     }
 }
 
-fn sign_word(s: Sign) -> Span
-    ensures { Spells result (sign_word s ++ bytes ",") }
+fn sign_word(s: Sign) -> &'static [u8]
+    ensures { result.now ≡ sign_word s ++ bytes "," }
 {
     match s {
         Sign::Unsigned => UNSIGNED,
@@ -127,8 +98,8 @@ fn sign_word(s: Sign) -> Span
     }
 }
 
-fn polarity_word(negative: bool) -> Span
-    ensures { Spells result (polarity_word negative) }
+fn polarity_word(negative: bool) -> &'static [u8]
+    ensures { result.now ≡ polarity_word negative }
 {
     if negative {
         return NEG;
@@ -136,8 +107,8 @@ fn polarity_word(negative: bool) -> Span
     POS
 }
 
-fn base_word(hex: bool) -> Span
-    ensures { Spells result (base_word hex ++ bytes ",") }
+fn base_word(hex: bool) -> &'static [u8]
+    ensures { result.now ≡ base_word hex ++ bytes "," }
 {
     if hex {
         return HEX;
@@ -145,8 +116,8 @@ fn base_word(hex: bool) -> Span
     DEC
 }
 
-fn spelling_word(underscores: bool) -> Span
-    ensures { Spells result (spelling_word underscores) }
+fn spelling_word(underscores: bool) -> &'static [u8]
+    ensures { result.now ≡ spelling_word underscores }
 {
     if underscores {
         return UNDERSCORES;

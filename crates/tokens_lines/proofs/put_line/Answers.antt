@@ -19,6 +19,6 @@ returns c =
     let a = c.args in
     let p = c.words_of-p.ensures in
     added_same (line_joined a.k a.offset a.len)
-    (added_then (c.append_word-a.ensures.0 _ p.name)
+    (added_then (added_same p.name c.append-a.ensures)
     (added_then c.append_number-b.ensures.0
     (added_then c.append_number-c.ensures.0 (added_then (c.append_detail-d.ensures a.k p) c.append.ensures))))
