@@ -1,14 +1,19 @@
 -- Looking for a place that passes a test: how a search goes on, and what it finds. Assumes nothing.
-use Prim.Native.Nat.{ℕ, ◌+◌, ◌≤◌, ◌<◌, min}
-use mathlib.Core.Path.{◌≡◌, refl, ap, ◌∙◌}
+use Prim.Native.Nat.{ℕ, zero, suc, ◌-◌, ◌+◌, ◌≤◌, ◌<◌, min}
+use mathlib.Core.Path.{◌≡◌, refl, sym, ap, ◌∙◌}
 use mathlib.Core.Logic.{⊎_elim}
 use mathlib.Core.Bool.{Bool, true, false, ◌||◌, or-false}
 use mathlib.Core.List.{List, ◌∷◌}
 use native.Mathlib.Omega.{arith}
 use native.Mathlib.Numerals.{add-one}
 use lib.Dec.{eqb}
-use lib.ListN.{length, get_or, drop}
+use lib.ListN.{length, get_or, take, drop}
 use lib.Seq.{drop-cons, get_or-drop}
+use Rattle.std.specs.Prelude.{None, Some}
+use Rattle.std.proofs.lemmas.List.{get_or-take, length-take, length-drop}
+use Rattle.std.proofs.lemmas.Bool.{false_from_ne_true}
+use borrow.Author.Tests.{eqb-true, eqb-false, eq-eqb, ne_eqb}
+use Rattle.memchr.specs.Find.{IsFirstByte, Nowhere, NoneBefore, Passes, is_byte2}
 use Rattle.wat.specs.Bytes.{has}
 use Rattle.wat.proofs.Basics.{below}
 use Rattle.lex_classes.specs.Scan.{Passed, Scanned, First, placed}
@@ -16,6 +21,13 @@ use Rattle.lex_classes.proofs.ScanLaws.{passed_stop, passed_end}
 use Rattle.lex_classes.proofs.SearchLaws.{clear_none, clear_then, clear_one, first_clear, none_passed}
 use Rattle.lex_classes.proofs.SearchLaws.{Least, least_none, least_next, least_first}
 use Rattle.lex_comments.specs.Find.{among, byte_at, Without, Sought}
+
+turned : (a b : ℕ) → eqb a b ≡ eqb b a
+turned a b = go (eqb a b) refl
+  where
+    go : (p : Bool) → eqb a b ≡ p → eqb a b ≡ eqb b a
+    go true e = e ∙ sym (eq-eqb b a (sym (eqb-true a b e)))
+    go false e = e ∙ sym (ne_eqb b a (λ q. eqb-false a b e (sym q)))
 
 pub among_or : (x y b : ℕ) → among x y b ≡ eqb x b || eqb y b
 unfolding has
@@ -87,6 +99,48 @@ module _ (test : ℕ → Bool) (s : List ℕ) (at r : ℕ) where
       let p = without_passed q.passed in
       ⊎_elim (λ h. passed_stop test false s at r p h (q.stops h)) (λ h. passed_end test false s at r p h) (below r (length s))
 
+-- ---- what the library's search for two bytes says of the part of a text from `at` to `to`
+
+module _ (x y : ℕ) where
+  -- it tests what `among` does, the other way round
+  tested : (b : ℕ) → among x y b ≡ is_byte2 x y b
+  tested b = among_or x y b ∙ ap (λ p. p || eqb y b) (turned x b) ∙ ap (λ p. eqb b x || p) (turned y b)
+
+  module _ (s : List ℕ) (at to : ℕ) (h : at ≤ to) (l : to ≤ length s) where
+    byte_in : (k : ℕ) → at ≤ k → k < to → among x y (get_or s k 0) ≡ is_byte2 x y (get_or (take (to - at) (drop at s)) (k - at) 0)
+    byte_in k a b =
+        tested (get_or s k 0) ∙ ap (is_byte2 x y) (sym (get_or-take (to - at) (drop at s) (k - at) 0 (omega arith)
+        ∙ byte_behind s at (k - at) k (omega arith)))
+
+    none_in : (j : ℕ) → at ≤ j → j ≤ to → Nowhere (Passes (is_byte2 x y) (take (to - at) (drop at s))) 0 (j - at)
+        → Without (byte_at (among x y)) s at j
+    none_in j m n e =
+        record {
+          on = m;
+          within = omega arith;
+          clear = record {
+            none = λ k a b. byte_in k a (omega arith) ∙ false_from_ne_true _ (e (k - at) (omega arith) (omega arith));
+          };
+        }
+
+    pub first_none : IsFirstByte (is_byte2 x y) (take (to - at) (drop at s)) None
+        → Sought (byte_at (among x y)) (byte_at (among x y)) s at to to
+    first_none e =
+        record {
+          passed = none_in to h (omega arith) (λ k a b. e k a (omega (arith, length-take (to - at) (drop at s), length-drop at s)));
+          stops = λ b. absurd (omega (arith, b));
+        }
+
+    pub first_some : (n : ℕ) → IsFirstByte (is_byte2 x y) (take (to - at) (drop at s)) (Some n)
+        → Sought (byte_at (among x y)) (byte_at (among x y)) s at to (at + n)
+    first_some n e =
+        let b : at + n < to = omega (arith, e.0.high, length-take (to - at) (drop at s), length-drop at s) in
+        let m : (at + n) - at ≡ n = omega arith in
+        record {
+          passed = none_in (at + n) (omega arith) (omega arith) (rw m e.0.before);
+          stops = λ _. byte_in (at + n) (omega arith) b ∙ rw m e.1;
+        }
+
 -- a block of n places from i on, of which k are looked at: m is the first that passes, and n stands for none
 pub record Sifted (f : ℕ → Bool) (i n k m : ℕ) : Type 0 where
   pub upto : k ≤ n
@@ -106,5 +160,7 @@ module _ (f : ℕ → Bool) (i n : ℕ) where
 pub ruleset sifts = (among_or, sifted_none, sifted_next, sifted_first)
 
 -- a search goes on, and what it finds
+pub ruleset firsts = (first_none, first_some)
+
 pub ruleset finds =
     (among_or, without_none, without_one, without_then, without_block, sought_here, sought_past, sought_then, sought_block, sought_all)

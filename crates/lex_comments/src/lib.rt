@@ -13,58 +13,16 @@ ghost use Rattle.lex_comments.specs.Confusing.{lead, confusing_at, hidden_in};
 
 use wat::Hidden;
 
-// How many of the 64 bytes from i on come before the first that is x or y. With so small a test LLVM makes no vector
-// code of a loop over 32.
-#[tactic(auto, using(crate::proofs::FindLaws::sifts))]
-fn first64(x: u8, y: u8, s: &[u8], i: usize) -> usize
-    requires { i + 64 ≤ length s.now }
-    ensures { First (byte_at (among x y) s.now) i 64 result }
-{
-    let mut m: u8 = 64;
-    let mut k: usize = 0;
-    while k < 64 {
-        let b = s[i + k];
-        m = lex_classes::lesser((x == b) | (y == b), 64, k as u8, m);
-        k += 1;
-    }
-    m as usize
-}
-
-// The place of the first byte that is x or y, byte by byte.
-#[tactic(auto, using(crate::proofs::FindLaws::finds))]
-fn tail(x: u8, y: u8, s: &[u8], at: usize, to: usize) -> usize
-    requires { (at ≤ to) × (to ≤ length s.now) }
-    ensures { Sought (byte_at (among x y)) (byte_at (among x y)) s.now at to result }
-{
-    let mut i = at;
-    while i < to {
-        let b = s[i];
-        if (x == b) | (y == b) {
-            return i;
-        }
-        i += 1;
-    }
-    i
-}
-
-// The place of the first byte from `at` on that is x or y, if it stands before `to`; if not, a place from `to` on.
-#[tactic(auto, using(crate::proofs::FindLaws::finds))]
+// The place of the first byte from `at` on that is x or y, if it stands before `to`; if not, `to`.
+#[tactic(auto, using(crate::proofs::FindLaws::firsts))]
 fn memchr2(x: u8, y: u8, s: &[u8], at: usize, to: usize) -> usize
     requires { (at ≤ to) × (to ≤ length s.now) }
     ensures { Sought (byte_at (among x y)) (byte_at (among x y)) s.now at to result }
 {
-    let mut i = at;
-    while i < to {
-        if s.len() - i < 64 {
-            return tail(x, y, s, i, to);
-        }
-        let n = first64(x, y, s, i);
-        if n < 64 {
-            return i + n;
-        }
-        i += 64;
+    match memchr::memchr2(x, y, &s[at..to]) {
+        Some(n) => at + n,
+        None => to,
     }
-    i
 }
 
 // Where the line of `at` ends: at its LF or CR, or at the end of the text.
@@ -255,7 +213,7 @@ fn next_hidden(s: &[u8], at: usize, to: usize) -> usize
     let mut i = at;
     while i < to {
         if s.len() - i < 34 {
-            return tail(0xe2, 0xe2, s, i, to);
+            return memchr2(0xe2, 0xe2, s, i, to);
         }
         let n = hides32(s, i);
         if n < 32 {
