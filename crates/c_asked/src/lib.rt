@@ -1,10 +1,10 @@
 // Decodes what a C caller passes: settings (a word of bits) and a token (three words). include/thallusweb.h has them.
 #![tactic(auto)]
 
-ghost use Rattle.std.specs.Prelude.{◌≡◌};
-ghost use Rattle.c_asked.specs.Asked.{settings_of, Empty, Asks};
+ghost use Rattle.std.specs.Prelude.{◌≡◌, IfSome, IfNone};
+ghost use Rattle.c_asked.specs.Asked.{settings_of, Denotes, DenotesNone, Empty, Asks};
 
-use codes::MaybeKind;
+use codes::KindNumber;
 use wat::{Settings, Token, TokenKind};
 
 // The settings by a word's bits: 1, confusing characters are allowed; 2, strict digits. Other bits are ignored.
@@ -33,18 +33,19 @@ fn no_token(offset: usize) -> Token
 pub fn token_of(w: [u64; 3]) -> Token
     ensures { Asks w result }
 {
-    if 0xFFFF < w[0] {
-        return no_token(w[1] as usize);
-    }
-    if 0xFFFF_FFFF < w[2] {
-        return no_token(w[1] as usize);
-    }
-    match codes::kind_of(w[0] as u16) {
-        MaybeKind::Kind(kind) => Token {
-            kind,
-            offset: w[1] as usize,
-            len: w[2] as u32,
-        },
-        MaybeKind::NoKind => no_token(w[1] as usize),
-    }
+    named(w).unwrap_or(no_token(w[1] as usize))
+}
+
+// The token whose kind's number, offset and length are these, if a kind has the number and 32 bits hold the length.
+fn named(w: [u64; 3]) -> Option<Token>
+    ensures one { IfSome result (Denotes w) }
+    ensures none { IfNone result (DenotesNone w) }
+{
+    let number = u16::try_from(w[0]).ok()?;
+    let len = u32::try_from(w[2]).ok()?;
+    Some(Token {
+        kind: KindNumber::try_from(number).ok()?.kind(),
+        offset: w[1] as usize,
+        len,
+    })
 }

@@ -1,16 +1,8 @@
--- What it is for a number to name a kind, and for two kinds to be the same.
-use Rattle.std.specs.Prelude.{ℕ, ◌≡◌, Bool, true, false}
+-- What a number is answered: the kind that has it, or that no kind has it.
+use Rattle.std.specs.Prelude.{ℕ, ◌≡◌, ◌≢◌, Result, MatchResult}
 use Rattle.wat.specs.declared.TokenKind.{TokenKind}
 use Rattle.wat.specs.Cases.{kind_number}
-use Rattle.codes.specs.declared.MaybeKind.{MaybeKind}
-use Rattle.codes.specs.declared.MaybeKind.TheVariants.{Kind, NoKind}
+use Rattle.codes.specs.declared.Nameless.{Nameless}
 
--- the answer is the kind whose number `n` is, or that no kind has it
-pub data Numbered (n : ℕ) : MaybeKind → Type 0 where
-  named : {k : TokenKind} → kind_number k ≡ n → Numbered n (Kind k)
-  nameless : ((k : TokenKind) → kind_number k ≡ n → ⊥) → Numbered n NoKind
-
--- the answer is whether the two are the same kind, details and all
-pub data Same (a b : TokenKind) : Bool → Type 0 where
-  same : a ≡ b → Same a b true
-  other : (a ≡ b → ⊥) → Same a b false
+abbrev pub Names : ℕ → Result TokenKind Nameless → Type 0
+Names n r = MatchResult r (λ k. kind_number k ≡ n) (λ e. (e.0 ≡ n) × ((k : TokenKind) → kind_number k ≢ n))

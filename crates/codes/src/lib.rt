@@ -2,11 +2,12 @@
 
 #![tactic(auto)]
 
-ghost use Rattle.std.specs.Prelude.{◌≡◌, ◌≤◌, ◌/◌, ◌%◌, eqb, [], ◌∷◌, ◌⊎◌};
+ghost use Rattle.std.specs.Prelude.{◌≡◌, ◌≢◌, ◌≤◌, ◌/◌, ◌%◌, eqb, [], ◌∷◌, ◌⊎◌, IfSome, IfNone};
 ghost use Rattle.wat.specs.Cases.{flag as flag_of, sign_number, float_number, kind_number, error_number, number};
-ghost use Rattle.codes.specs.Numbered.{Numbered, Same};
 ghost use Rattle.codes.specs.Coded.{Coded};
+ghost use Rattle.codes.specs.Numbered.{Names};
 
+use std::marker::Model;
 use wat::{FloatKind, IntegerKind, LexError, Refusal, Sign, TokenKind};
 
 fn flag(is: bool, n: u16) -> u16
@@ -72,19 +73,6 @@ pub fn kind_number(k: TokenKind) -> u16
     }
 }
 
-pub fn same_kind(a: TokenKind, b: TokenKind) -> bool
-    ensures { Same a b result }
-{
-    kind_number(a) == kind_number(b)
-}
-
-// The kind that has a number, if one has it.
-#[derive(Clone, Copy)]
-pub enum MaybeKind {
-    Kind(TokenKind),
-    NoKind,
-}
-
 // Whether the detail that counts `bit` is in the sum `n`.
 fn has(n: u16, bit: u16) -> bool
     requires { 1 ≤ bit }
@@ -142,14 +130,91 @@ fn candidate(n: u16) -> TokenKind
     }
 }
 
-pub fn kind_of(n: u16) -> MaybeKind
-    ensures { Numbered n result }
+// The kind that has a number, if one has it.
+pub fn kind_of(n: u16) -> Option<TokenKind>
+    ensures named { IfSome result (λ k. kind_number k ≡ n) }
+    ensures nameless { IfNone result ((k : TokenKind) → kind_number k ≢ n) }
 {
     let k = candidate(n);
     if kind_number(k) == n {
-        return MaybeKind::Kind(k);
+        return Some(k);
     }
-    MaybeKind::NoKind
+    None
+}
+
+// A kind in one word, its number: clauses see the kind itself.
+#[derive(Clone, Copy)]
+pub struct KindNumber {
+    number: u16,
+}
+
+impl Model for KindNumber {
+    ghost use Rattle.std.specs.Prelude.{◌≡◌};
+    ghost use Rattle.wat.specs.declared.TokenKind.{TokenKind};
+    ghost use Rattle.wat.specs.Cases.{kind_number};
+    ghost use Rattle.wat.specs.KindAt.{kind_at};
+
+    ghost Value = { TokenKind };
+
+    ghost view = { λ n. kind_at n.number };
+
+    ghost invariant = { λ n. kind_number (kind_at n.number) ≡ n.number };
+
+    ghost inverse = { λ k. record { number = kind_number k } };
+}
+
+impl KindNumber {
+    pub fn new(k: TokenKind) -> KindNumber
+        ensures { result ≡ k }
+    {
+        KindNumber {
+            number: kind_number(k),
+        }
+    }
+
+    // The number itself.
+    pub fn get(self) -> u16
+        ensures { result ≡ kind_number self }
+    {
+        self.number
+    }
+
+    // The kind again: no number is held that no kind has.
+    pub fn kind(self) -> TokenKind
+        ensures { result ≡ self }
+    {
+        candidate(self.number)
+    }
+}
+
+impl From<TokenKind> for KindNumber {
+    ghost from_gives = { λ k n. n ≡ k };
+
+    fn from(k: TokenKind) -> KindNumber {
+        KindNumber::new(k)
+    }
+}
+
+impl From<KindNumber> for TokenKind {
+    ghost from_gives = { λ n k. k ≡ n };
+
+    fn from(n: KindNumber) -> TokenKind {
+        n.kind()
+    }
+}
+
+// A number that no kind has.
+#[derive(Clone, Copy, PartialEq, Eq)]
+pub struct Nameless(pub u16);
+
+impl TryFrom<u16> for KindNumber {
+    type Error = Nameless;
+
+    ghost try_from_gives = { Names };
+
+    fn try_from(n: u16) -> Result<KindNumber, Nameless> {
+        kind_of(n).map(KindNumber::new).ok_or(Nameless(n))
+    }
 }
 
 // The number of a refusal and the values that it carries, 0 for each that it lacks: characters and numbers of an error,
@@ -176,7 +241,7 @@ fn with_one(number: u8, value: u32) -> Code
 {
     Code {
         number,
-        first: value as u64,
+        first: u64::from(value),
         second: 0,
     }
 }
@@ -186,8 +251,8 @@ fn with_two(number: u8, first: u32, second: u32) -> Code
 {
     Code {
         number,
-        first: first as u64,
-        second: second as u64,
+        first: u64::from(first),
+        second: u64::from(second),
     }
 }
 

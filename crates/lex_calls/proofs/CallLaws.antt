@@ -12,6 +12,7 @@ use Rattle.wat.specs.declared.Refusal.TheVariants.{Lexical}
 use Rattle.wat.specs.declared.Answer.TheVariants as answer
 use Rattle.wat.specs.declared.Found.TheVariants as found
 use Rattle.wat.specs.Faults.{fault}
+use Rattle.wat.specs.Cases.{kind_number}
 use Rattle.wat.specs.Bytes.{byte}
 use Rattle.wat.specs.Utf8.{WellFormed}
 use Rattle.wat.specs.Lexing.{Lexed}
@@ -19,11 +20,7 @@ use Rattle.wat.specs.LexModel.{next, lex}
 use Rattle.wat.specs.Calls.{Text, Stands, at, AtSign, Parses, Annotates}
 use Rattle.wat.proofs.Basics.{differ, never, fault_same}
 use Rattle.wat_laws.proofs.{Total.lexed, OneCall.sign_stands}
-use Rattle.codes.specs.declared.MaybeKind.{MaybeKind}
-use Rattle.codes.specs.declared.MaybeKind.TheVariants.{Kind, NoKind}
-use Rattle.codes.specs.Numbered.{Numbered}
 use Rattle.wat.proofs.KindNumbers.{kind_some, injective}
-use Rattle.codes.proofs.NumberLaws.{named_kind, no_kind, same_kind, other_kind}
 use Rattle.lex_token.specs.declared.Step.{Step}
 use Rattle.lex_token.specs.Steps.{Stepped, Faults}
 use Rattle.lex_token.proofs.StepLaws.{token_of, fault_of}
@@ -34,11 +31,10 @@ use Rattle.lex_token.proofs.LexLaws.{lexed_within}
 pub next_end : (σ : Settings) (text : List ℕ) (pos : ℕ) → pos ≡ length text → Lexed σ (drop pos text) answer.End
 next_end σ text pos e = let h : length text ≤ pos = omega arith in Lexed.end (drop_of_length-le text h)
 
-module _ (σ : Settings) (text : List ℕ) (pos : ℕ) {r : Step} (s : Stepped σ text pos r) {m : MaybeKind} (n : Numbered r.kind m)
-    (g : WellFormed (drop pos text)) where
-  module _ {k : TokenKind} (e : m ≡ Kind k) where
+module _ (σ : Settings) (text : List ℕ) (pos : ℕ) {r : Step} (s : Stepped σ text pos r) (g : WellFormed (drop pos text)) where
+  module _ (k : TokenKind) (e : kind_number k ≡ r.kind) where
     some : r.kind ≡ 0 → ⊥
-    some z = kind_some k (named_kind n e ∙ z)
+    some z = kind_some k (e ∙ z)
 
     pub token_onward : pos ≤ r.end
     token_onward = let h = s.onward some in omega arith
@@ -46,12 +42,13 @@ module _ (σ : Settings) (text : List ℕ) (pos : ℕ) {r : Step} (s : Stepped �
     pub next_token : Lexed σ (drop pos text) (answer.Token k (r.end - pos))
     next_token =
         let t = token_of s some in
-        let j = injective k t.0 (named_kind n e ∙ t.3) in
+        let j = injective k t.0 (e ∙ t.3) in
         let l : r.end - pos ≡ t.1 = omega (arith, t.4) in
         subst (λ (a : Answer). Lexed σ (drop pos text) a) (t.2 ∙ sym (cc)) (lexed σ g)
 
   -- the fault, counted from the text's start: it stands at the position or after it
-  module _ {f : Fault} (h : pos < length text) (e : m ≡ NoKind) (x : Faults pos (lex σ (drop pos text)) f) where
+  module _ {f : Fault} (h : pos < length text) (e : (k : TokenKind) → kind_number k ≡ r.kind → ⊥)
+      (x : Faults pos (lex σ (drop pos text)) f) where
     pub fault_onward : (pos ≤ f.place) × (pos ≤ f.after)
     fault_onward = go r.kind refl
       where
@@ -62,7 +59,7 @@ module _ (σ : Settings) (text : List ℕ) (pos : ℕ) {r : Step} (s : Stepped �
             (omega (arith, ap (λ (u : Fault). u.place) y), omega (arith, ap (λ (u : Fault). u.after) y))
         go (suc i) z =
             let t = token_of s (λ q. omega arith) in
-            absurd (no_kind n e t.0 (sym t.3))
+            absurd (e t.0 (sym t.3))
 
     pub next_fault : Lexed σ (drop pos text) (answer.Fault (fault f.error (f.place - pos) (f.after - pos)))
     next_fault = go r.kind refl
@@ -78,7 +75,7 @@ module _ (σ : Settings) (text : List ℕ) (pos : ℕ) {r : Step} (s : Stepped �
             subst (λ (a : Answer). Lexed σ (drop pos text) a) (t.1 ∙ ap answer.Fault same) (lexed σ g)
         go (suc i) z =
             let t = token_of s (λ q. omega arith) in
-            absurd (no_kind n e t.0 (sym t.3))
+            absurd (e t.0 (sym t.3))
 
 -- ---- an answer and its bounds, from a position on
 
@@ -145,8 +142,6 @@ pub ruleset signs = (
   Annotates.elsewhere,
   token_fits,
   fault_fits,
-  same_kind,
-  other_kind,
   annotation_end,
   annotation_fault,
   annotation_token,

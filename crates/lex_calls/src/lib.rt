@@ -12,7 +12,6 @@ ghost use Rattle.wat.specs.Lexing.{Lexed};
 ghost use Rattle.wat.specs.Calls.{Text, Stands, Parses, Annotates};
 ghost use Rattle.lex_token.specs.Steps.{Faults};
 
-use codes::MaybeKind;
 use lex_classes::Table;
 use lex_entry::Entry;
 use utf8_chars::Char;
@@ -82,11 +81,11 @@ pub fn next(text: &[u8], at: usize, settings: Settings, t: &Table) -> Answer
     let step = lex_token::parse_kind(text, at, settings, t);
     let number = step.kind;
     match codes::kind_of(number) {
-        MaybeKind::Kind(kind) => Answer::Token {
+        Some(kind) => Answer::Token {
             kind,
             len: step.end - at,
         },
-        MaybeKind::NoKind => {
+        None => {
             let fault = fault_at(text, at, settings, t);
             let error = fault.error;
             Answer::Fault(Fault {
@@ -223,7 +222,7 @@ fn annotation_at(text: &[u8], settings: Settings, pos: usize) -> Found
             }
         }
         Answer::Token { kind, len } => {
-            if codes::same_kind(kind, TokenKind::Annotation) {
+            if kind == TokenKind::Annotation {
                 return Found::Token(Token {
                     kind,
                     offset: pos,

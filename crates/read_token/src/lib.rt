@@ -89,8 +89,7 @@ pub fn taken(text: &[u8], token: Token, wanted: TokenKind, t: &Table) -> TokenCh
     match present(text, token, t) {
         TokenCheck::Refused { refusal, place } => TokenCheck::Refused { refusal, place },
         TokenCheck::There => {
-            let kind = token.kind;
-            if codes::same_kind(kind, wanted) {
+            if token.kind == wanted {
                 return TokenCheck::There;
             }
             TokenCheck::Refused {

@@ -1,9 +1,8 @@
 -- No two kinds have one number: a kind is found again from its number, by the rest by 256 and the details in the quotient.
 -- No number is 0, and all are below 4096. Assumes nothing.
-use Prim.Native.Nat.{ℕ, zero, suc, ◌/◌, ◌%◌, ◌≤◌, ◌<◌}
+use Prim.Native.Nat.{ℕ, zero, suc, ◌%◌, ◌≤◌, ◌<◌}
 use mathlib.Core.Path.{◌≡◌, refl, sym, ap, ◌∙◌}
 use mathlib.Core.Bool.{Bool, true, false}
-use mathlib.Core.List.{List, [], ◌∷◌}
 use native.Mathlib.Omega.{arith}
 use lib.Dec.{eqb}
 use lib.ListN.{get_or, get_or-eq_default}
@@ -17,39 +16,7 @@ use Rattle.wat.specs.declared.TokenKind.{TokenKind}
 use Rattle.wat.specs.declared.TokenKind.TheVariants.{LineComment, BlockComment, Whitespace, LParen, RParen, String, Id, Keyword}
 use Rattle.wat.specs.declared.TokenKind.TheVariants.{Annotation, Reserved, Integer, Float}
 use Rattle.wat.specs.Cases.{flag, sign_number, kind_number}
-
-abbrev detail : ℕ → ℕ → Bool
-detail n bit = eqb (n / bit % 2) 1
-
-abbrev pub sign_at : ℕ → Sign
-sign_at n = elim (detail n 256) [ true ↦ Plus | false ↦ elim (detail n 512) [ true ↦ Minus | false ↦ Unsigned ] ]
-
-abbrev integer_at : ℕ → IntegerKind
-integer_at n = record { sign = sign_at n; underscores = detail n 1024; hex = detail n 2048 }
-
--- by the rest by 256: the kind with the details that `n` has
-abbrev pub kinds : ℕ → List TokenKind
-kinds n =
-    Reserved
-    ∷ LineComment
-    ∷ BlockComment
-    ∷ Whitespace
-    ∷ LParen
-    ∷ RParen
-    ∷ String
-    ∷ Id
-    ∷ Keyword
-    ∷ Annotation
-    ∷ Reserved
-    ∷ Integer (integer_at n)
-    ∷ Float (Inf (detail n 512))
-    ∷ Float (Nan (detail n 512))
-    ∷ Float (NanVal (detail n 512) (detail n 1024))
-    ∷ Float (Normal (detail n 1024) (detail n 2048))
-    ∷ []
-
-abbrev kind_at : ℕ → TokenKind
-kind_at n = get_or (kinds n) (n % 256) Reserved
+use Rattle.wat.specs.KindAt.{detail, sign_at, integer_at, kinds, kind_at}
 
 abbrev Again : TokenKind → Type 0
 Again k = k ≡ kind_at (kind_number k)
@@ -82,7 +49,7 @@ float (Normal true false) = refl
 float (Normal false true) = refl
 float (Normal false false) = refl
 
-found_again : (k : TokenKind) → Again k
+pub found_again : (k : TokenKind) → Again k
 found_again LineComment = refl
 found_again BlockComment = refl
 found_again Whitespace = refl

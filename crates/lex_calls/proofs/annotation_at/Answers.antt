@@ -1,5 +1,4 @@
-use Rattle.std.proofs.Common.{sym, ◌∙◌, arith}
-use Rattle.codes.proofs.NumberLaws.{other_kind}
+use Rattle.std.proofs.Common.{sym, ◌∙◌, arith, rules}
 use Rattle.wat_laws.proofs.OneCall.{sign_stands}
 use Rattle.lex_calls.proofs.CallLaws.{token_fits, fault_fits, sign_some, annotation_other}
 use Rattle.lex_calls.proofs.annotation_at.Goals as goal
@@ -18,8 +17,8 @@ overflow_cast-result c =
     let b = sign_stands _ _ c.requires sign in
     omega (arith, token_fits _ _ _ b c.next.ensures c.in-Token.is, b.sound.short)
 
-pub returns-else-same_kind : goal.returns-else-same_kind
-returns-else-same_kind c =
+pub returns-else-eq : goal.returns-else-eq
+returns-else-eq c =
     let a = c.args in
     let sign = sign_some a.text.now a.pos (sym c.is_at.ensures ∙ c.if-not-is_at.false) in
-    annotation_other _ _ _ c.requires sign c.next.ensures c.in-Token.is (other_kind c.same_kind.ensures c.if-same_kind.false)
+    annotation_other _ _ _ c.requires sign c.next.ensures c.in-Token.is (search rules)
