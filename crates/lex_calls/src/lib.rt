@@ -13,11 +13,10 @@ ghost use Rattle.wat.specs.Calls.{Text, Stands, Parses, Annotates};
 ghost use Rattle.lex_token.specs.Steps.{Faults};
 
 use lex_classes::Table;
-use lex_entry::Entry;
 use utf8_chars::Char;
 use wat::{
-    Answer, Family, Fault, Found, Hidden, LexError, Parsed, Refusal, RunEnd, Settings, Token,
-    TokenKind,
+    Answer, Family, Fault, Found, Hidden, LexError, Parsed, Refusal, Refused, RunEnd, Settings,
+    Token, TokenKind,
 };
 
 // One token at a position.
@@ -26,11 +25,11 @@ pub fn parse(text: &[u8], settings: Settings, pos: usize) -> Parsed
     ensures { Parses settings text.now pos result }
 {
     match lex_entry::check(text, pos) {
-        Entry::Rejected { refusal, place } => Parsed {
+        Err(Refused { refusal, place }) => Parsed {
             found: Found::Refused { refusal, place },
             position: pos,
         },
-        Entry::Stands => parse_at(text, settings, pos),
+        Ok(()) => parse_at(text, settings, pos),
     }
 }
 
@@ -192,13 +191,13 @@ fn no_error(at: usize) -> Fault {
 }
 
 // The annotation at a position, if one is there. A position at which no `@` stands is not looked at further.
-#[tactic(auto, using(lex_entry::proofs::CheckLaws::text_annotates))]
+#[tactic(auto, using(lex_entry::proofs::CheckLaws::annotates))]
 pub fn annotation(text: &[u8], settings: Settings, pos: usize) -> Found
     ensures { Annotates settings text.now pos result }
 {
     match lex_entry::check_text(text, pos) {
-        Entry::Rejected { refusal, place } => Found::Refused { refusal, place },
-        Entry::Stands => annotation_at(text, settings, pos),
+        Err(Refused { refusal, place }) => Found::Refused { refusal, place },
+        Ok(()) => annotation_at(text, settings, pos),
     }
 }
 

@@ -2,64 +2,57 @@
 
 #![tactic(auto)]
 
-ghost use Rattle.lex_entry.specs.Checks.{Sound, Meets};
+ghost use Rattle.std.specs.Prelude.{OnOk, IfErr};
+ghost use Rattle.wat.specs.Calls.{Text, Stands};
+ghost use Rattle.lex_entry.specs.Checks.{Refuses, RefusesText};
 
-use wat::{Checked, Refusal, Token};
-
-// By what a text and a position are refused, 1 to 4.
-#[derive(Clone, Copy)]
-pub enum Entry {
-    Stands,
-    Rejected { refusal: Refusal, place: usize },
-}
+use wat::{Checked, Refusal, Refused, Token};
 
 // 1 to 4: as `check_text`, and then the position is past the end, or inside a character.
 #[tactic(auto, using(crate::proofs::CheckLaws::placed))]
-pub fn check(text: &[u8], pos: usize) -> Entry
-    ensures { Meets text.now pos result }
+pub fn check(text: &[u8], pos: usize) -> Result<(), Refused>
+    ensures ok { OnOk result (Stands text.now pos) }
+    ensures err { IfErr result (Refuses text.now pos) }
 {
-    match check_text(text, pos) {
-        Entry::Rejected { refusal, place } => Entry::Rejected { refusal, place },
-        Entry::Stands => {
-            if text.len() < pos {
-                return Entry::Rejected {
-                    refusal: Refusal::PastEnd,
-                    place: pos,
-                };
-            }
-            if utf8_chars::is_char_boundary(text, pos) {
-                return Entry::Stands;
-            }
-            Entry::Rejected {
-                refusal: Refusal::InsideCharacter,
-                place: pos,
-            }
-        }
+    check_text(text, pos)?;
+    if text.len() < pos {
+        return Err(Refused {
+            refusal: Refusal::PastEnd,
+            place: pos,
+        });
     }
+    if !utf8_chars::is_char_boundary(text, pos) {
+        return Err(Refused {
+            refusal: Refusal::InsideCharacter,
+            place: pos,
+        });
+    }
+    Ok(())
 }
 
-// 1 and 2: the text is too long, or no UTF-8.
+// 1 and 2, which do not depend on the position: the text is too long, or no UTF-8.
 #[tactic(auto, using(crate::proofs::CheckLaws::checked))]
-pub fn check_text(text: &[u8], pos: usize) -> Entry
-    ensures { Sound text.now pos result }
+pub fn check_text(text: &[u8], pos: usize) -> Result<(), Refused>
+    ensures ok { OnOk result (Text text.now) }
+    ensures err { IfErr result (RefusesText text.now pos) }
 {
     if Token::MAX_TEXT < text.len() {
-        return Entry::Rejected {
+        return Err(Refused {
             refusal: Refusal::TooLong,
             place: pos,
-        };
+        });
     }
     match utf8_check::check(text) {
-        Checked::Ok => Entry::Stands,
+        Checked::Ok => Ok(()),
         Checked::Bad {
             valid_up_to,
             error_len,
-        } => Entry::Rejected {
+        } => Err(Refused {
             refusal: Refusal::NotUtf8 {
                 valid_up_to,
                 error_len,
             },
             place: valid_up_to,
-        },
+        }),
     }
 }

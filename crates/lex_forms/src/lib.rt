@@ -5,13 +5,12 @@
 ghost use Rattle.std.specs.Prelude.{◌≡◌};
 ghost use Rattle.wat.specs.declared.Refusal.TheVariants.{NotThatKind};
 ghost use Rattle.wat.specs.Calls.{Stands};
-ghost use Rattle.wat_forms.specs.declared.Folded.TheVariants.{Refused};
+ghost use Rattle.wat_forms.specs.declared.Folded.TheVariants as folded;
 ghost use Rattle.wat_forms.specs.Forms.{Folds};
 ghost use Rattle.lex_forms.specs.Inner.{InnerFolds};
 
 use lex_classes::Table;
-use lex_entry::Entry;
-use wat::{Answer, Refusal, Settings, TokenKind};
+use wat::{Answer, Refusal, Refused, Settings, TokenKind};
 use wat_forms::Folded;
 
 // The position past the form that begins at a position.
@@ -20,8 +19,8 @@ pub fn fold(text: &[u8], settings: Settings, pos: usize) -> Folded
     ensures { Folds settings text.now pos result }
 {
     match lex_entry::check(text, pos) {
-        Entry::Rejected { refusal, place } => Folded::Refused { refusal, place },
-        Entry::Stands => fold_at(text, settings, pos),
+        Err(Refused { refusal, place }) => Folded::Refused { refusal, place },
+        Ok(()) => fold_at(text, settings, pos),
     }
 }
 
@@ -44,7 +43,7 @@ fn fold_at(text: &[u8], settings: Settings, pos: usize) -> Folded
 
 // 31, which has no place.
 fn no_form() -> Folded
-    ensures { result ≡ Refused NotThatKind 0 }
+    ensures { result ≡ folded.Refused NotThatKind 0 }
 {
     Folded::Refused {
         refusal: Refusal::NotThatKind,

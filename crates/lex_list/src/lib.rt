@@ -8,8 +8,7 @@ ghost use Rattle.wat.specs.Calls.{Stands};
 ghost use Rattle.buffers.specs.Writing.{Put};
 
 use lex_classes::Table;
-use lex_entry::Entry;
-use wat::{Listed, Refusal, Settings, Stop, Token};
+use wat::{Listed, Refusal, Refused, Settings, Stop, Token};
 
 // A token's record at a place of the list: its length in four bytes and its kind in two, the least first.
 #[tactic(auto, using(crate::proofs::RecordLaws::six_stores))]
@@ -87,11 +86,11 @@ pub fn list(text: &[u8], settings: Settings, start: usize, budget: usize, list: 
     ensures { Listing settings text.now start budget list.old result list.new }
 {
     match lex_entry::check(text, start) {
-        Entry::Rejected { refusal, place } => Listed {
+        Err(Refused { refusal, place }) => Listed {
             stop: Stop::Refused { refusal, place },
             count: 0,
             position: start,
         },
-        Entry::Stands => list_from(text, settings, start, budget, list),
+        Ok(()) => list_from(text, settings, start, budget, list),
     }
 }

@@ -8,8 +8,7 @@ ghost use Rattle.wat_values.specs.Reading.{There};
 ghost use Rattle.read_token.specs.Here.{Here, Taken, HereNumber, HereName};
 
 use lex_classes::Table;
-use lex_entry::Entry;
-use wat::{FloatKind, IntegerKind, Refusal, Settings, Token, TokenKind};
+use wat::{FloatKind, IntegerKind, Refusal, Refused, Settings, Token, TokenKind};
 use wat_values::{NO_PLACE, NameKind};
 
 // Whether a token is there: 1 to 4 at its offset, and 30.
@@ -28,8 +27,8 @@ pub fn present(text: &[u8], token: Token, t: &Table) -> TokenCheck
     }
     let offset = token.offset;
     match lex_entry::check(text, offset) {
-        Entry::Rejected { refusal, place } => TokenCheck::Refused { refusal, place },
-        Entry::Stands => present_at(text, token, t),
+        Err(Refused { refusal, place }) => TokenCheck::Refused { refusal, place },
+        Ok(()) => present_at(text, token, t),
     }
 }
 

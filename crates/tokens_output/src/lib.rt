@@ -10,8 +10,7 @@ ghost use Rattle.tokens_output.specs.Front.{Front, room};
 ghost use Rattle.tokens_output.specs.Output.{Output, longest};
 
 use lex_classes::Table;
-use lex_entry::Entry;
-use wat::{Answer, Refusal, Settings};
+use wat::{Answer, Refusal, Refused, Settings};
 
 // The longest input.
 pub const LONGEST: usize = 32_768;
@@ -58,7 +57,7 @@ pub fn render(text: &[u8], out: &mut [u8; ROOM]) -> usize
         return buffers::append(out, end, b"too-long\n");
     }
     match lex_entry::check(text, 0) {
-        Entry::Rejected { refusal, place } => tokens_lines::put_error(out, end, refusal, place),
-        Entry::Stands => render_from(text, out, end),
+        Err(Refused { refusal, place }) => tokens_lines::put_error(out, end, refusal, place),
+        Ok(()) => render_from(text, out, end),
     }
 }
