@@ -6,10 +6,11 @@ use mathlib.Core.List.{List, [], ◌∷◌}
 use native.Mathlib.Omega.{arith}
 use lib.ListN.{length, drop, length-drop, drop_of_length-le}
 use borrow.Author.Tests.{eqb-true}
-use Rattle.wat.specs.declared.{TokenKind.TokenKind, Fault.Fault, Answer.Answer, Settings.Settings}
+use Rattle.wat.specs.declared.{TokenKind.TokenKind, Fault.Fault, Settings.Settings}
+use Rattle.wat.specs.Answers.{Answer}
 use Rattle.wat.specs.declared.TokenKind.TheVariants as kind
 use Rattle.wat.specs.declared.Refusal.TheVariants.{Lexical}
-use Rattle.wat.specs.declared.Answer.TheVariants as answer
+use Rattle.wat.specs.Answers as answer
 use Rattle.wat.specs.declared.Found.TheVariants as found
 use Rattle.wat.specs.Faults.{fault}
 use Rattle.wat.specs.Cases.{kind_number}
@@ -17,7 +18,7 @@ use Rattle.wat.specs.Bytes.{byte}
 use Rattle.wat.specs.Utf8.{WellFormed}
 use Rattle.wat.specs.Lexing.{Lexed}
 use Rattle.wat.specs.LexModel.{next, lex}
-use Rattle.wat.specs.Calls.{Text, Stands, at, AtSign, Parses, Annotates}
+use Rattle.wat.specs.Calls.{Text, Stands, AtSign, Parses, Annotates}
 use Rattle.wat.proofs.Basics.{differ, never, fault_same}
 use Rattle.wat_laws.proofs.{Total.lexed, OneCall.sign_stands}
 use Rattle.wat.proofs.KindNumbers.{kind_some, injective}
@@ -90,9 +91,6 @@ module _ (σ : Settings) (text : List ℕ) (pos : ℕ) (b : Stands text pos) {a 
   fault_fits e =
       let w = lexed_within (answered e) in
       (omega (arith, w.0, length-drop pos text, b.within), omega (arith, w.1, length-drop pos text, b.within))
-
-  pub parsed : {c : Answer} → a ≡ c → Parses σ text pos (at pos c)
-  parsed e = Parses.lexes b (answered e)
 
 -- ---- annotations
 

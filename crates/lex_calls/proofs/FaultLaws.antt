@@ -12,8 +12,8 @@ use Rattle.wat.specs.declared.TokenKind.{TokenKind}
 use Rattle.wat.specs.declared.TokenKind.TheVariants as kind
 use Rattle.wat.specs.declared.LexError.{LexError}
 use Rattle.wat.specs.declared.LexError.TheVariants.{ConfusingUnicode}
-use Rattle.wat.specs.declared.Answer.{Answer}
-use Rattle.wat.specs.declared.Answer.TheVariants as answer
+use Rattle.wat.specs.Answers.{Answer}
+use Rattle.wat.specs.Answers as answer
 use Rattle.wat.specs.Bytes.{byte}
 use Rattle.wat.specs.declared.Settings.{Settings}
 use Rattle.wat.specs.Chars.{newline}

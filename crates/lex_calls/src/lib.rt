@@ -15,7 +15,7 @@ ghost use Rattle.lex_token.specs.Steps.{Faults};
 use lex_classes::Table;
 use utf8_chars::Char;
 use wat::{
-    Answer, Family, Fault, Found, Hidden, LexError, Parsed, Refusal, Refused, RunEnd, Settings,
+    Family, Fault, Found, Hidden, LexError, Lexeme, Parsed, Refusal, Refused, RunEnd, Settings,
     Token, TokenKind,
 };
 
@@ -41,11 +41,11 @@ fn parse_at(text: &[u8], settings: Settings, pos: usize) -> Parsed
 {
     let t = Table::new();
     match next(text, pos, settings, &t) {
-        Answer::End => Parsed {
+        Ok(None) => Parsed {
             found: Found::Nothing,
             position: pos,
         },
-        Answer::Token { kind, len } => Parsed {
+        Ok(Some(Lexeme { kind, len })) => Parsed {
             found: Found::Token(Token {
                 kind,
                 offset: pos,
@@ -53,7 +53,7 @@ fn parse_at(text: &[u8], settings: Settings, pos: usize) -> Parsed
             }),
             position: pos + len,
         },
-        Answer::Fault(fault) => {
+        Err(fault) => {
             let error = fault.error;
             Parsed {
                 found: Found::Refused {
@@ -69,25 +69,25 @@ fn parse_at(text: &[u8], settings: Settings, pos: usize) -> Parsed
 // What is next at a place of a checked text. Every walk over the tokens of a text calls this, except the listing's
 // loop. Places count from there.
 #[tactic(auto, using(crate::proofs::CallLaws::nexts))]
-pub fn next(text: &[u8], at: usize, settings: Settings, t: &Table) -> Answer
+pub fn next(text: &[u8], at: usize, settings: Settings, t: &Table) -> Result<Option<Lexeme>, Fault>
     requires at_in_bounds { at ≤ length text.now }
     requires well_formed { WellFormed (drop at text.now) }
     ensures { Lexed settings (drop at text.now) result }
 {
     if at == text.len() {
-        return Answer::End;
+        return Ok(None);
     }
     let step = lex_token::parse_kind(text, at, settings, t);
     let number = step.kind;
     match codes::kind_of(number) {
-        Some(kind) => Answer::Token {
+        Some(kind) => Ok(Some(Lexeme {
             kind,
             len: step.end - at,
-        },
+        })),
         None => {
             let fault = fault_at(text, at, settings, t);
             let error = fault.error;
-            Answer::Fault(Fault {
+            Err(Fault {
                 error,
                 place: fault.place - at,
                 after: fault.after - at,
@@ -212,15 +212,15 @@ fn annotation_at(text: &[u8], settings: Settings, pos: usize) -> Found
     }
     let t = Table::new();
     match next(text, pos, settings, &t) {
-        Answer::End => Found::Nothing,
-        Answer::Fault(fault) => {
+        Ok(None) => Found::Nothing,
+        Err(fault) => {
             let error = fault.error;
             Found::Refused {
                 refusal: Refusal::Lexical(error),
                 place: pos + fault.place,
             }
         }
-        Answer::Token { kind, len } => {
+        Ok(Some(Lexeme { kind, len })) => {
             if kind == TokenKind::Annotation {
                 return Found::Token(Token {
                     kind,

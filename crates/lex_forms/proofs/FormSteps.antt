@@ -6,13 +6,14 @@ use mathlib.Core.List.{List, [], ◌∷◌, ◌++◌, append_assoc}
 use native.Mathlib.Omega.{arith}
 use lib.ListN.{length, drop, length-drop}
 use types.Run.{OneOf}
-use Rattle.wat.specs.declared.{TokenKind.TokenKind, Settings.Settings, Fault.Fault, Answer.Answer}
+use Rattle.wat.specs.declared.{TokenKind.TokenKind, Settings.Settings, Fault.Fault}
+use Rattle.wat.specs.Answers.{Answer}
 use Rattle.wat.specs.declared.TokenKind.TheVariants as kind
 use Rattle.wat.specs.declared.Refusal.TheVariants.{Lexical, NotThatKind}
-use Rattle.wat.specs.declared.Answer.TheVariants as answer
+use Rattle.wat.specs.Answers as answer
 use Rattle.wat.specs.{Lexing.Lexed, Calls.Stands, Division.Piece, Division.Walked}
 use Rattle.wat.proofs.Basics.{differ}
-use Rattle.wat.proofs.Unique.{lexed_one}
+use Rattle.wat.proofs.Unique.{token_same, lexed_one}
 use Rattle.wat_laws.proofs.Walks.{walked_start, walked_one, walked_then, walked_more, stands_on}
 use Rattle.wat_laws.proofs.Divisions.{token_size}
 use Rattle.lex_calls.proofs.CallLaws.{fault_fits}
@@ -164,7 +165,7 @@ module _ {σ : Settings} {text : List ℕ} {pos : ℕ} (s : Stands text pos) whe
 
     pub folds_other : {k : TokenKind} {n : ℕ} → Lexed σ (drop pos text) (answer.Token k n) → (k ≡ kind.LParen → ⊥)
         → Folds σ text pos r
-    folds_other {k} {n} l h = elsewhere l (λ m (q : answer.Token k n ≡ answer.Token kind.LParen m). h (cc))
+    folds_other {k} {n} l h = elsewhere l (λ m (q : answer.Token k n ≡ answer.Token kind.LParen m). h (token_same q).0)
 
     pub folds_end : Lexed σ (drop pos text) answer.End → Folds σ text pos r
     folds_end l = elsewhere l (λ m (q : answer.End ≡ answer.Token kind.LParen m). differ (cc))

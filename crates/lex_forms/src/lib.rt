@@ -10,7 +10,7 @@ ghost use Rattle.wat_forms.specs.Forms.{Folds};
 ghost use Rattle.lex_forms.specs.Inner.{InnerFolds};
 
 use lex_classes::Table;
-use wat::{Answer, Refusal, Refused, Settings, TokenKind};
+use wat::{Lexeme, Refusal, Refused, Settings, TokenKind};
 use wat_forms::Folded;
 
 // The position past the form that begins at a position.
@@ -32,12 +32,12 @@ fn fold_at(text: &[u8], settings: Settings, pos: usize) -> Folded
 {
     let t = Table::new();
     match lex_calls::next(text, pos, settings, &t) {
-        Answer::Token { kind, len } => match kind {
+        Ok(Some(Lexeme { kind, len })) => match kind {
             TokenKind::LParen => inner(text, pos + len, Folded::LEVELS - 1, settings, &t),
             _ => no_form(),
         },
-        Answer::End => no_form(),
-        Answer::Fault(_) => no_form(),
+        Ok(None) => no_form(),
+        Err(_) => no_form(),
     }
 }
 
@@ -62,15 +62,15 @@ fn inner(text: &[u8], start: usize, left: usize, settings: Settings, t: &Table) 
     let mut at = start;
     loop {
         match lex_calls::next(text, at, settings, t) {
-            Answer::End => return Folded::Unclosed { place: at },
-            Answer::Fault(fault) => {
+            Ok(None) => return Folded::Unclosed { place: at },
+            Err(fault) => {
                 let error = fault.error;
                 return Folded::Refused {
                     refusal: Refusal::Lexical(error),
                     place: at + fault.place,
                 };
             }
-            Answer::Token { kind, len } => match kind {
+            Ok(Some(Lexeme { kind, len })) => match kind {
                 TokenKind::RParen => return Folded::Past(at + len),
                 TokenKind::LParen => {
                     if left == 0 {

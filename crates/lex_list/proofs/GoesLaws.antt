@@ -5,9 +5,10 @@ use mathlib.Core.List.{List, [], ◌∷◌, ◌++◌}
 use native.Mathlib.Omega.{arith}
 use lib.ListN.{length, take, drop, length-append, take-append-drop}
 use lib.Seq.{drop-drop, take-append_seam, drop-append_seam}
-use Rattle.wat.specs.declared.{TokenKind.TokenKind, Settings.Settings, Fault.Fault, Answer.Answer, Stop.Stop}
+use Rattle.wat.specs.declared.{TokenKind.TokenKind, Settings.Settings, Fault.Fault, Stop.Stop}
+use Rattle.wat.specs.Answers.{Answer}
 use Rattle.wat.specs.declared.Refusal.TheVariants.{Lexical}
-use Rattle.wat.specs.declared.Answer.TheVariants as answer
+use Rattle.wat.specs.Answers as answer
 use Rattle.wat.specs.declared.Stop.TheVariants as stop
 use Rattle.wat.specs.Cases.{kind_number}
 use Rattle.wat.specs.Lexing.{Lexed}

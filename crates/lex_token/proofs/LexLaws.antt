@@ -5,11 +5,11 @@ use mathlib.Core.List.{List, ◌∷◌, ◌++◌}
 use native.Mathlib.Omega.{arith}
 use lib.ListN.{length, get_or, drop, length-append}
 use lib.Seq.{drop-cons}
+use Rattle.std.specs.Prelude.{Some, None, Ok, Err}
 use Rattle.wat.specs.Bytes.{byte}
 use Rattle.wat.specs.declared.TokenKind.{TokenKind}
 use Rattle.wat.specs.declared.Fault.{Fault}
-use Rattle.wat.specs.declared.Answer.{Answer}
-use Rattle.wat.specs.declared.Answer.TheVariants as answer
+use Rattle.wat.specs.Answers.{Answer}
 use Rattle.wat.specs.declared.Settings.{Settings}
 use Rattle.wat.specs.Utf8.{WellFormed}
 use Rattle.wat.specs.StringFaults.{BadStr}
@@ -51,9 +51,9 @@ fault_within (Fails.string {w = w} r (BadStr.quoted {b = b} {p = p} {c = c} {u =
     (omega arith, omega arith)
 
 abbrev pub Within : List ℕ → Answer → Type 0
-Within s answer.End = Unit {0}
-Within s (answer.Token k n) = (0 < n) × (n ≤ length s)
-Within s (answer.Fault f) = (f.place ≤ length s) × (f.after ≤ length s)
+Within s (Ok None) = Unit {0}
+Within s (Ok (Some l)) = (0 < l.len) × (l.len ≤ length s)
+Within s (Err f) = (f.place ≤ length s) × (f.after ≤ length s)
 
 pub lexed_within : {σ : Settings} {s : List ℕ} {a : Answer} → Lexed σ s a → Within s a
 lexed_within (Lexed.end e) = tt

@@ -9,7 +9,7 @@ use lib.ListN.{length, get_or, take, drop}
 use lib.Seq.{slice, length-slice, take-append-add}
 use Rattle.wat.specs.declared.TokenKind.{TokenKind}
 use Rattle.wat.specs.declared.Fault.{Fault}
-use Rattle.wat.specs.declared.Answer.TheVariants as answer
+use Rattle.wat.specs.Answers as answer
 use Rattle.wat.specs.Bytes.{byte, Each}
 use Rattle.wat.specs.Cases.{kind_number}
 use Rattle.wat.specs.declared.Settings.{Settings}

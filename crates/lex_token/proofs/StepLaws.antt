@@ -7,11 +7,12 @@ use native.Mathlib.Omega.{arith}
 use native.Mathlib.Numerals.{add-one}
 use lib.ListN.{length, get_or, drop, length-drop}
 use lib.Seq.{drop-cons}
+use Rattle.std.specs.Prelude.{Some, None, Ok, Err}
 use Rattle.wat.specs.declared.TokenKind.{TokenKind}
 use Rattle.wat.specs.declared.TokenKind.TheVariants as kind
 use Rattle.wat.specs.declared.Fault.{Fault}
-use Rattle.wat.specs.declared.Answer.{Answer}
-use Rattle.wat.specs.declared.Answer.TheVariants as answer
+use Rattle.wat.specs.Answers.{Answer}
+use Rattle.wat.specs.Answers as answer
 use Rattle.wat.specs.declared.Settings.{Settings}
 use Rattle.wat.specs.Utf8.{WellFormed}
 use Rattle.wat.specs.Chars.{space}
@@ -82,9 +83,9 @@ stepped σ s at {f} {r} h g e q =
     same = q ∙ ap (step_of at) (sym (lex_family σ s at h e))
 
     go : (a : Answer) → Within (drop at s) a → Reaches s at (step_of at a)
-    go answer.End w = (λ n. absurd (n refl), omega arith, omega arith)
-    go (answer.Token k n) w = (λ z. omega (arith, w.0), omega (arith, w.1, length-drop at s), kind_small k)
-    go (answer.Fault x) w = (λ z. absurd (z refl), omega arith, omega arith)
+    go (Ok None) w = (λ n. absurd (n refl), omega arith, omega arith)
+    go (Ok (Some l)) w = (λ z. omega (arith, w.0), omega (arith, w.1, length-drop at s), kind_small l.kind)
+    go (Err x) w = (λ z. absurd (z refl), omega arith, omega arith)
 
     reach : Reaches s at (step_of at (lex.lex σ (drop at s)))
     reach = go (lex.lex σ (drop at s)) (lex_within σ g)
@@ -101,9 +102,9 @@ module _ {σ : Settings} {s : List ℕ} {at : ℕ} {r : Step} (q : Stepped σ s 
           (a : Answer) → lex.lex σ (drop at s) ≡ a → r ≡ step_of at a
           → (k : TokenKind) × (n : ℕ) × (lex.lex σ (drop at s) ≡ answer.Token k n) × (r.kind ≡ kind_number k)
           × (r.end ≡ at + n)
-      go answer.End e p = absurd (z (ap (λ (x : Step). x.kind) p))
-      go (answer.Token k n) e p = (k, n, e, ap (λ (x : Step). x.kind) p, ap (λ (x : Step). x.end) p)
-      go (answer.Fault x) e p = absurd (z (ap (λ (x : Step). x.kind) p))
+      go (Ok None) e p = absurd (z (ap (λ (x : Step). x.kind) p))
+      go (Ok (Some l)) e p = (l.kind, l.len, e, ap (λ (x : Step). x.kind) p, ap (λ (x : Step). x.end) p)
+      go (Err x) e p = absurd (z (ap (λ (x : Step). x.kind) p))
 
   pub fault_of : at < length s → WellFormed (drop at s) → r.kind ≡ 0 → (f : Fault) × (lex.lex σ (drop at s) ≡ answer.Fault f)
   fault_of h g z = go (lex.lex σ (drop at s)) refl (lexed σ g) q.same
@@ -114,9 +115,9 @@ module _ {σ : Settings} {s : List ℕ} {at : ℕ} {r : Step} (q : Stepped σ s 
       go :
           (a : Answer) → lex.lex σ (drop at s) ≡ a → Lexed σ (drop at s) a → r ≡ step_of at a
           → (f : Fault) × (lex.lex σ (drop at s) ≡ answer.Fault f)
-      go answer.End e (Lexed.end n) p = absurd (left n)
-      go (answer.Token k n) e l p = absurd (kind_some k (sym (ap (λ (x : Step). x.kind) p) ∙ z))
-      go (answer.Fault x) e l p = (x, e)
+      go (Ok None) e (Lexed.end n) p = absurd (left n)
+      go (Ok (Some t)) e l p = absurd (kind_some t.kind (sym (ap (λ (x : Step). x.kind) p) ∙ z))
+      go (Err x) e l p = (x, e)
 
 -- the families that a function of their own reads
 module _ (σ : Settings) (s : List ℕ) (at : ℕ) (r : Step) where

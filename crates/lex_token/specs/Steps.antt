@@ -1,7 +1,8 @@
 -- The model's answers as the code gives them, counted from the text's start.
-use Rattle.std.specs.Prelude.{ℕ, ◌+◌, ◌≤◌, ◌<◌, ◌≡◌, List, length, drop}
-use Rattle.wat.specs.declared.{Answer.Answer, Fault.Fault}
-use Rattle.wat.specs.declared.Answer.TheVariants as answer
+use Rattle.std.specs.Prelude.{ℕ, ◌+◌, ◌≤◌, ◌<◌, ◌≡◌, List, length, drop, Some, None, Ok, Err}
+use Rattle.wat.specs.declared.Fault.{Fault}
+use Rattle.wat.specs.Answers.{Answer}
+use Rattle.wat.specs.Answers as answer
 use Rattle.wat.specs.Cases.{kind_number}
 use Rattle.wat.specs.declared.Settings.{Settings}
 use Rattle.wat.specs.Faults.{shift}
@@ -12,9 +13,9 @@ abbrev pub nowhere : ℕ → Step
 nowhere at = record { kind = 0; end = at }
 
 abbrev pub step_of : ℕ → Answer → Step
-step_of at answer.End = nowhere at
-step_of at (answer.Token k n) = record { kind = kind_number k; end = at + n }
-step_of at (answer.Fault f) = nowhere at
+step_of at (Ok None) = nowhere at
+step_of at (Ok (Some l)) = record { kind = kind_number l.kind; end = at + l.len }
+step_of at (Err f) = nowhere at
 
 -- the step is that of the answer for what is left from a place on
 pub record Stepped (σ : Settings) (s : List ℕ) (at : ℕ) (r : Step) : Type 0 where

@@ -6,25 +6,19 @@ use lib.ListN.{take, drop}
 use Rattle.wat.specs.declared.{Token.Token, Refusal.Refusal}
 use Rattle.wat_values.specs.declared.{Reading.Reading, NameReading.NameReading, IntegerSign.IntegerSign}
 use Rattle.wat_values.specs.declared.{FloatSign.FloatSign, IntegerValue.IntegerValue}
-use Rattle.wat.specs.declared.Answer.TheVariants as answer
 use Rattle.wat_values.specs.declared.Reading.TheVariants as reading
 use Rattle.wat_values.specs.declared.NameReading.TheVariants as name
 use Rattle.wat_values.specs.declared.IntegerSign.TheVariants as integer
 use Rattle.wat_values.specs.declared.FloatSign.TheVariants as float
 use Rattle.wat_values.specs.declared.IntegerValue.TheVariants as value
-use Rattle.wat.specs.Settings.{lenient}
-use Rattle.wat.specs.Lexing.{Lexed}
 use Rattle.wat_values.specs.Reading.{There, Missing, Read, ReadsName, ReadsSign, ReadsNegative}
 use Rattle.wat_values.specs.Integers.{ReadsWord}
-use Rattle.wat.proofs.Unique.{tok_some}
+use Rattle.wat.proofs.Unique.{tok_some, token_longest}
 use Rattle.read_call.specs.ByNumber.{ReadBy, Nowhere}
 
 module _ {text : List ℕ} {token : Token} (none : token.len ≡ 0) where
   not_there : There text token → ⊥
-  not_there t = go t.lexed
-    where
-      go : Lexed lenient (drop token.offset text) (answer.Token token.kind token.len) → ⊥
-      go (Lexed.token l nf) = tok_some l.is (ap (λ (n : ℕ). take n (drop token.offset text)) none)
+  not_there t = tok_some (token_longest t.lexed).is (ap (λ (n : ℕ). take n (drop token.offset text)) none)
 
   nowhere : {r : Refusal} {p : ℕ} → Missing text token r p → Nowhere text token.offset r p
   nowhere (Missing.rejected t) = Nowhere.rejected t

@@ -4,10 +4,10 @@ use mathlib.Core.Path.{◌≡◌, sym, ap, subst, ◌∙◌}
 use mathlib.Core.List.{List}
 use native.Mathlib.Omega.{arith}
 use lib.ListN.{length, take, drop, length-drop, drop_of_length-le}
-use lib.Seq.{slice, take-nil}
+use lib.Seq.{slice}
 use Rattle.wat.specs.declared.{TokenKind.TokenKind, Token.Token}
 use Rattle.wat_values.specs.declared.Reading.{Reading}
-use Rattle.wat.specs.declared.Answer.TheVariants as answer
+use Rattle.wat.specs.Answers as answer
 use Rattle.wat.specs.declared.Refusal.TheVariants.{NotThatToken}
 use Rattle.wat.specs.Settings.{lenient}
 use Rattle.wat.specs.Cases.{kind_number}
@@ -17,7 +17,7 @@ use Rattle.wat.specs.LexModel.{lex}
 use Rattle.wat.specs.Calls.{Stands, most}
 use Rattle.wat_values.specs.Values.{Reader, Takes, Value, Reads}
 use Rattle.wat_values.specs.Reading.{There, no_place, Missing, own, Handed, Read}
-use Rattle.wat.proofs.Unique.{tok_some}
+use Rattle.wat.proofs.Unique.{token_longest, nil_token}
 use Rattle.wat_laws.proofs.Total.{lexed}
 use Rattle.wat_laws.proofs.Answers.{lexed_is}
 use Rattle.wat_laws.proofs.Divisions.{token_size}
@@ -33,12 +33,9 @@ use Rattle.lex_token.proofs.StepLaws.{token_of}
 module _ (text : List ℕ) (token : Token) (s : Stands text token.offset) where
   -- the end is no token
   pub none_there : token.offset ≡ length text → Missing text token NotThatToken no_place
-  none_there e = Missing.not_there s (λ t. go t.lexed)
-    where
-      go : Lexed lenient (drop token.offset text) (answer.Token token.kind token.len) → ⊥
-      go (Lexed.token l nf) =
-          let h : length text ≤ token.offset = omega arith in
-          tok_some l.is (ap (take token.len) (drop_of_length-le text h) ∙ take-nil token.len)
+  none_there e = Missing.not_there s (λ t.
+      let h : length text ≤ token.offset = omega arith in
+      nil_token (token_longest t.lexed) (drop_of_length-le text h))
 
   module _ {r : Step} (q : Stepped lenient text token.offset r) where
     said : Lexed lenient (drop token.offset text) (answer.Token token.kind token.len)

@@ -6,12 +6,13 @@ use mathlib.Core.Bool.{Bool, true, false}
 use mathlib.Core.List.{List, [], ◌∷◌, ◌++◌}
 use lib.ListN.{length, take, drop, get_or}
 use denote.Ref.{Bor}
-use Rattle.wat.specs.declared.{Answer.Answer, TokenKind.TokenKind, Checked.Checked, Found.Found, Parsed.Parsed, Listed.Listed}
+use Rattle.wat.specs.declared.{TokenKind.TokenKind, Checked.Checked, Found.Found, Parsed.Parsed, Listed.Listed}
+use Rattle.wat.specs.Answers.{Answer}
 use Rattle.wat.specs.declared.{Refusal.Refusal, Token.Token, Settings.Settings}
 use Rattle.wat.specs.declared.{Fault.Fault, LexError.TheVariants.UnexpectedEof, LexError.TheVariants.DoubleUnderscore}
 use Rattle.wat.specs.declared.Refusal.TheVariants.{Lexical}
 use Rattle.wat.specs.declared.Found.TheVariants as found
-use Rattle.wat.specs.declared.Answer.TheVariants as answer
+use Rattle.wat.specs.Answers as answer
 use Rattle.wat.specs.declared.Stop.TheVariants as stop
 use Rattle.wat_values.specs.declared.{Reading.Reading, NameReading.NameReading, IntegerSign.IntegerSign, IntegerValue.IntegerValue}
 use Rattle.wat_values.specs.declared.FloatSign.{FloatSign}

@@ -5,7 +5,7 @@ use mathlib.Core.List.{List, [], ◌∷◌, ◌++◌, append_assoc, append-nil}
 use native.Mathlib.Omega.{arith}
 use lib.ListN.{length, take, drop, length-append, length-drop}
 use Rattle.wat.specs.declared.{TokenKind.TokenKind, Fault.Fault, Refusal.Refusal, Refusal.TheVariants.Lexical}
-use Rattle.wat.specs.declared.Answer.TheVariants as answer
+use Rattle.wat.specs.Answers as answer
 use Rattle.wat.specs.{Bytes.bytes, Settings.plain, Cases.number, Calls.Stands, Calls.Rejected, Lexing.Lexed}
 use Rattle.wat.specs.Division.{Piece, lengths, Divided, Walked}
 use Rattle.wat.proofs.Basics.{differ}

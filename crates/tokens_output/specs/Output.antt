@@ -1,7 +1,7 @@
 -- What `wat-tokens` prints of a text (docs/RULES.md, 15), under the settings of a new lexer.
 use Rattle.std.specs.Prelude.{ℕ, ◌+◌, ◌≤◌, ◌<◌, List, [], ◌++◌, length}
 use Rattle.wat.specs.declared.{Fault.Fault, Refusal.Refusal}
-use Rattle.wat.specs.declared.Answer.TheVariants as answer
+use Rattle.wat.specs.Answers as answer
 use Rattle.wat.specs.{Bytes.bytes, Settings.plain, Cases.error_number, Cases.number, Calls.Stands, Calls.Rejected}
 use Rattle.wat.specs.Lexing.{Lexed}
 use Rattle.wat.specs.Division.{Piece, lengths, Divided}

@@ -10,7 +10,7 @@ ghost use Rattle.tokens_output.specs.Front.{Front, room};
 ghost use Rattle.tokens_output.specs.Output.{Output, longest};
 
 use lex_classes::Table;
-use wat::{Answer, Refusal, Refused, Settings};
+use wat::{Lexeme, Refusal, Refused, Settings};
 
 // The longest input.
 pub const LONGEST: usize = 32_768;
@@ -31,16 +31,16 @@ fn render_from(text: &[u8], out: &mut [u8], from: usize) -> usize
     let mut count: usize = 0;
     loop {
         match lex_calls::next(text, at, Settings::PLAIN, &t) {
-            Answer::Token { kind, len } => {
+            Ok(Some(Lexeme { kind, len })) => {
                 end = tokens_lines::put_line(out, end, kind, at, len);
                 at += len;
                 count += 1;
             }
-            Answer::Fault(fault) => {
+            Err(fault) => {
                 let error = fault.error;
                 return tokens_lines::put_error(out, end, Refusal::Lexical(error), at + fault.place);
             }
-            Answer::End => {
+            Ok(None) => {
                 return tokens_lines::put_end(out, end, at, count);
             }
         }

@@ -9,10 +9,11 @@ use native.Mathlib.Omega.{arith}
 use lib.Dec.{eqb, ltb}
 use lib.ListN.{length, take, drop, take-append-drop}
 use lib.Seq.{length-take-le}
-use Rattle.wat.specs.declared.{Settings.Settings, Answer.Answer, Fault.Fault, LexError.LexError, Family.Family, Hidden.Hidden}
+use Rattle.wat.specs.declared.{Settings.Settings, Fault.Fault, LexError.LexError, Family.Family, Hidden.Hidden}
+use Rattle.wat.specs.Answers.{Answer}
 use Rattle.wat.specs.declared.TokenKind.TheVariants as kind
 use Rattle.wat.specs.declared.LexError.TheVariants.{ConfusingUnicode}
-use Rattle.wat.specs.declared.Answer.TheVariants as answer
+use Rattle.wat.specs.Answers as answer
 use Rattle.wat.specs.declared.Hidden.TheVariants.{Clear as clear, Found as found}
 use Rattle.wat.specs.{Bytes.bytes, Bytes.byte, Utf8.WellFormed}
 use Rattle.wat.specs.StringFaults.{Bad, BadStr}
@@ -22,7 +23,7 @@ use Rattle.wat.specs.Lexing.{Fails, Lexed}
 use Rattle.wat.proofs.Basics.{differ}
 use Rattle.wat.proofs.ScalarValues.{char_short}
 use Rattle.wat.proofs.Shapes.{Shape, a_close, an_open, open_one, close_one, tok_shape}
-use Rattle.wat.proofs.Unique.{lexed_one, family_open, family_close}
+use Rattle.wat.proofs.Unique.{token_same, lexed_one, family_open, family_close}
 use Rattle.wat_laws.proofs.Total.{lexed}
 
 -- ---- parentheses
@@ -68,12 +69,12 @@ comment_other σ n m s q = go σ.allow_confusing (hidden (suc (length s)) s) q
     shown : (b : Bool) (f : Fault) → answer.Token kind.LParen m
         ≡ elim b [ true ↦ answer.Fault f | false ↦ answer.Token kind.BlockComment n ] → ⊥
     shown true f q = differ (cc)
-    shown false f q = differ (cc)
+    shown false f q = let k = (token_same q).0 in differ (cc)
 
     go : (b : Bool) (h : Hidden) → answer.Token kind.LParen m
         ≡ elim b [ true ↦ answer.Token kind.BlockComment n | false ↦ comment_by kind.BlockComment n h ] → ⊥
-    go true h q = differ (cc)
-    go false clear q = differ (cc)
+    go true h q = let k = (token_same q).0 in differ (cc)
+    go false clear q = let k = (token_same q).0 in differ (cc)
     go false (found p c) q = shown (ltb p n) _ q
 
 block_other : (σ : Settings) (m : ℕ) (s : List ℕ) (o : Option ℕ) → answer.Token kind.LParen m ≡ block_by σ s o → ⊥

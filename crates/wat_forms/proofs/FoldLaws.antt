@@ -7,11 +7,11 @@ use native.Mathlib.Omega.{arith}
 use lib.ListN.{length, drop, drop_of_length-le}
 use Rattle.wat.specs.declared.Settings.{Settings}
 use Rattle.wat.specs.declared.TokenKind.TheVariants as kind
-use Rattle.wat.specs.declared.Answer.TheVariants as answer
+use Rattle.wat.specs.Answers as answer
 use Rattle.wat_forms.specs.declared.Folded.{Folded}
 use Rattle.wat.specs.{Lexing.Lexed, Division.Piece, Division.lengths, Division.Divided, Division.Walked}
 use Rattle.wat.proofs.Basics.{differ}
-use Rattle.wat.proofs.Unique.{lexed_one}
+use Rattle.wat.proofs.Unique.{token_same, lexed_one}
 use Rattle.wat_laws.proofs.OneCall.{rejected_one, stands_or_rejected}
 use Rattle.wat_laws.proofs.Divisions.{divided_one}
 use Rattle.wat_forms.specs.Forms.{deepest, opens, Form, Begun, Halts, Folds}
@@ -84,9 +84,8 @@ module _ {σ : Settings} {text : List ℕ} where
   halts_here (Halts.past f) v vs l w = subst Complete (form_top f (v ∷ vs)) w
   halts_here (Halts.fault b g) v vs l w = let z = lexed_one l g in differ (cc)
   halts_here (Halts.too_deep b g) v vs l w =
-      let z = lexed_one l g in
       let r = begun_top b in
-      subst Complete (r.1 (v ∷ vs) ∙ no_level v r.0 (cc)) w
+      subst Complete (r.1 (v ∷ vs) ∙ no_level v r.0 (token_same (lexed_one l g)).0) w
     where
       no_level : (v : Piece) (p : ℕ) → v.kind ≡ kind.LParen → run (v ∷ vs) p 0 ≡ stuck
       no_level v p e = rw e refl

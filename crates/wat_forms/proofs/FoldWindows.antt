@@ -9,7 +9,7 @@ use lib.Seq.{drop-append-le, drop-append-add}
 use Rattle.wat.specs.declared.{Settings.Settings}
 use Rattle.wat.specs.declared.TokenKind.TheVariants as kind
 use Rattle.wat.specs.declared.Refusal.TheVariants.{Lexical}
-use Rattle.wat.specs.declared.Answer.TheVariants as answer
+use Rattle.wat.specs.Answers as answer
 use Rattle.wat_forms.specs.declared.Folded.{Folded}
 use Rattle.wat_forms.specs.declared.Folded.TheVariants as folded
 use Rattle.wat.specs.{Lexing.Lexed, Calls.Text, Calls.Stands}

@@ -8,11 +8,11 @@ use native.Mathlib.Omega.{arith}
 use lib.ListN.{drop}
 use Rattle.wat.specs.declared.{TokenKind.TokenKind, Settings.Settings}
 use Rattle.wat.specs.declared.TokenKind.TheVariants as kind
-use Rattle.wat.specs.declared.Answer.TheVariants as answer
+use Rattle.wat.specs.Answers as answer
 use Rattle.wat_forms.specs.declared.Folded.{Folded}
 use Rattle.wat_forms.specs.declared.Folded.TheVariants as folded
 use Rattle.wat.specs.{Settings.lenient, Lexing.Lexed, Division.Piece, Division.lengths, Division.Divided, Division.Walked}
-use Rattle.wat.proofs.{Basics.differ, Unique.lexed_one}
+use Rattle.wat.proofs.{Basics.differ, Unique.token_same, Unique.lexed_one}
 use Rattle.wat_laws.specs.Looser.{Looser}
 use Rattle.wat_laws.proofs.{SettingLaws.looser_lenient}
 use Rattle.wat_laws.proofs.Divisions.{divided_some, lengths_append, ended_one, ended_nil, ended_fault}
@@ -83,8 +83,7 @@ module _ {σ : Settings} {text : List ℕ} {start end : ℕ} {ts : List Piece} (
           let same = ap lengths (e ∙ append-nil us) in
           absurd (omega (arith, w.place, u.place))
       go (inl (v ∷ vs, r, e, Divided.more m d)) =
-          let z = lexed_one m l in
-          inner_at us v vs u e (is_opening v (cc))
+          inner_at us v vs u e (is_opening v (token_same (lexed_one m l)).0)
       go (inr (vs, r, e, x)) =
           let same = ap lengths e ∙ lengths_append ts vs in
           absurd (omega (arith, w.place, u.place))

@@ -4,11 +4,12 @@ use mathlib.Core.Path.{◌≡◌, refl, sym, ap, ◌∙◌, subst}
 use mathlib.Core.Logic.{◌⊎◌, inl, inr}
 use mathlib.Core.List.{List, [], ◌∷◌, ◌++◌}
 use lib.ListN.{drop}
-use Rattle.wat.specs.declared.{Settings.Settings, Answer.Answer, Fault.Fault, LexError.LexError}
+use Rattle.wat.specs.declared.{Settings.Settings, Fault.Fault, LexError.LexError}
+use Rattle.wat.specs.Answers.{Answer}
 use Rattle.wat.specs.declared.TokenKind.TheVariants as kind
 use Rattle.wat.specs.declared.LexError.TheVariants.{DoubleUnderscore}
 use Rattle.wat.specs.declared.Refusal.TheVariants.{Lexical}
-use Rattle.wat.specs.declared.Answer.TheVariants as answer
+use Rattle.wat.specs.Answers as answer
 use Rattle.wat.specs.declared.Family.TheVariants.{Run as run}
 use Rattle.wat_forms.specs.declared.Folded.{Folded}
 use Rattle.wat_forms.specs.declared.Folded.TheVariants as folded

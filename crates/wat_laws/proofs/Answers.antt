@@ -12,8 +12,8 @@ use Rattle.wat.specs.declared.Fault.{Fault}
 use Rattle.wat.specs.Faults.{fault, shift}
 use Rattle.wat.specs.declared.TokenKind.{TokenKind}
 use Rattle.wat.specs.declared.LexError.TheVariants.{DanglingBlockComment, Unexpected, ConfusingUnicode, DoubleUnderscore}
-use Rattle.wat.specs.declared.Answer.{Answer}
-use Rattle.wat.specs.declared.Answer.TheVariants as answer
+use Rattle.wat.specs.Answers.{Answer}
+use Rattle.wat.specs.Answers as answer
 use Rattle.wat.specs.Bytes.{bytes}
 use Rattle.wat.specs.declared.Settings.{Settings}
 use Rattle.wat.specs.Settings.{lenient}

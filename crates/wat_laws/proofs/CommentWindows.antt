@@ -7,8 +7,9 @@ use native.Mathlib.Omega.{arith}
 use lib.ListN.{length, take, drop, length-append, take-append-drop}
 use lib.Seq.{length-take-le}
 use borrow.Author.Tests.{le-ltb}
-use Rattle.wat.specs.declared.{TokenKind.TokenKind, Settings.Settings, Answer.Answer}
-use Rattle.wat.specs.declared.Answer.TheVariants as answer
+use Rattle.wat.specs.declared.{TokenKind.TokenKind, Settings.Settings}
+use Rattle.wat.specs.Answers.{Answer}
+use Rattle.wat.specs.Answers as answer
 use Rattle.wat.specs.Utf8.{scalar, WellFormed, empty, more}
 use Rattle.wat.specs.Chars.{confusing}
 use Rattle.wat.specs.StringModel.{char}

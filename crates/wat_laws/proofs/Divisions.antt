@@ -7,13 +7,13 @@ use native.Mathlib.Omega.{arith}
 use lib.ListN.{length, take, drop, length-drop, take-append-drop}
 use lib.Seq.{drop-drop}
 use Rattle.wat.specs.declared.{TokenKind.TokenKind, Fault.Fault}
-use Rattle.wat.specs.declared.Answer.TheVariants as answer
+use Rattle.wat.specs.Answers as answer
 use Rattle.wat.specs.declared.Settings.{Settings}
 use Rattle.wat.specs.Lexing.{Lexed}
 use Rattle.wat.specs.Division.{Piece, lengths, Divided}
 use Rattle.wat.specs.Whole.{joined, Some, Longests, Division}
 use Rattle.wat.proofs.Basics.{differ}
-use Rattle.wat.proofs.Unique.{tok_some, lexed_one}
+use Rattle.wat.proofs.Unique.{tok_some, token_longest, token_same, lexed_one}
 use Rattle.wat.proofs.Boundaries.{token_formed}
 use Rattle.wat.specs.Utf8.{WellFormed}
 use Rattle.wat_laws.specs.Looser.{Looser}
@@ -54,7 +54,7 @@ divided_count (Divided.more l r) = let i = divided_count r in omega (arith, (tok
 -- the token with which a text begins
 token_one : {σ : Settings} {s : List ℕ} (t t' : Piece) → Lexed σ s (answer.Token t.kind t.len)
     → Lexed σ s (answer.Token t'.kind t'.len) → t ≡ t'
-token_one t t' l l' = let q = lexed_one l l' in same (cc) (cc)
+token_one t t' l l' = let q = token_same (lexed_one l l') in same q.0 q.1
   where
     same : t.kind ≡ t'.kind → t.len ≡ t'.len → t ≡ t'
     same p q = λ i. record { kind = p i; len = q i }
@@ -102,7 +102,7 @@ divided_joined {s = s} {rest = rest} (Divided.more {t = t} {ts = ts} l r) =
 
 divided_longest : {σ : Settings} {s rest : List ℕ} {ts : List Piece} → Divided σ s ts rest → Longests s ts
 divided_longest Divided.none = tt
-divided_longest (Divided.more (Lexed.token l f) r) = (l, divided_longest r)
+divided_longest (Divided.more l r) = (token_longest l, divided_longest r)
 
 pub one_division : {σ : Settings} {s : List ℕ} {ts : List Piece} → Divided σ s ts [] → Division σ s ts
 one_division {s = s} {ts = ts} d =
@@ -128,8 +128,7 @@ divided_next Divided.none Divided.none h = absurd (omega arith)
 divided_next Divided.none (Divided.more {t = t} l r) h = (t, l)
 divided_next (Divided.more l r) Divided.none h = absurd (omega arith)
 divided_next (Divided.more {t = t} l r) (Divided.more {t = t'} l' r') h =
-    let q = lexed_one l l' in
-    let n : t.len ≡ t'.len = cc in
+    let n : t.len ≡ t'.len = (token_same (lexed_one l l')).1 in
     divided_next r (rw (sym n) at r') (omega arith)
 
 pub lengths_append : (us vs : List Piece) → lengths (us ++ vs) ≡ lengths us + lengths vs
@@ -141,5 +140,5 @@ lengths_append (u ∷ us) vs = omega (arith, lengths_append us vs)
 pub divided_looser : {σ τ : Settings} {s rest : List ℕ} {ts : List Piece} → Looser σ τ → WellFormed s → Divided σ s ts rest
     → Divided τ s ts rest
 divided_looser o g Divided.none = Divided.none
-divided_looser o g (Divided.more (Lexed.token l f) d) =
-    Divided.more (lexed_looser o g (Lexed.token l f)) (divided_looser o (token_formed g l).1 d)
+divided_looser o g (Divided.more l d) =
+    Divided.more (lexed_looser o g l) (divided_looser o (token_formed g (token_longest l)).1 d)

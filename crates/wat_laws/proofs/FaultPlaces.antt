@@ -13,7 +13,7 @@ use Rattle.wat.specs.declared.{Fault.Fault, LexError.LexError, Settings.Settings
 use Rattle.wat.specs.declared.LexError.TheVariants.{UnexpectedEof}
 use Rattle.wat.specs.declared.Refusal.{Refusal}
 use Rattle.wat.specs.declared.Refusal.TheVariants.{Lexical}
-use Rattle.wat.specs.declared.Answer.TheVariants as answer
+use Rattle.wat.specs.Answers as answer
 use Rattle.wat.specs.declared.Found.TheVariants as found
 use Rattle.wat.specs.declared.Parsed.{Parsed}
 use Rattle.wat.specs.declared.Stop.TheVariants as stop

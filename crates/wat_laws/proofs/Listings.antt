@@ -6,8 +6,9 @@ use mathlib.Core.Logic.{◌⊎◌, inl, inr, ⊎_elim}
 use mathlib.Core.List.{List, [], ◌∷◌, ◌++◌}
 use native.Mathlib.Omega.{arith}
 use lib.ListN.{length, drop, length-append, length-drop, drop_of_length-le}
-use Rattle.wat.specs.declared.{TokenKind.TokenKind, Settings.Settings, Answer.Answer, Stop.Stop, Listed.Listed}
-use Rattle.wat.specs.declared.Answer.TheVariants as answer
+use Rattle.wat.specs.declared.{TokenKind.TokenKind, Settings.Settings, Stop.Stop, Listed.Listed}
+use Rattle.wat.specs.Answers.{Answer}
+use Rattle.wat.specs.Answers as answer
 use Rattle.wat.specs.declared.Stop.TheVariants as stop
 use Rattle.wat.specs.Lexing.{Lexed}
 use Rattle.wat.specs.LexModel.{lex}

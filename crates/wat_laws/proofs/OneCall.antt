@@ -13,7 +13,7 @@ use Rattle.wat.specs.declared.Checked.TheVariants.{Ok, Bad}
 use Rattle.wat.specs.declared.Refusal.{Refusal}
 use Rattle.wat.specs.declared.Parsed.{Parsed}
 use Rattle.wat.specs.declared.Found.{Found}
-use Rattle.wat.specs.declared.Answer.{Answer}
+use Rattle.wat.specs.Answers.{Answer}
 use Rattle.wat.specs.declared.Settings.{Settings}
 use Rattle.wat.specs.Bytes.{byte}
 use Rattle.wat.specs.Utf8.{WellFormed, Says}
@@ -24,7 +24,7 @@ use Rattle.wat.specs.Calls.{most, Text, Stands, Rejected, at, AtSign, Parses, An
 use Rattle.wat.proofs.Utf8Laws.{checked_says, says_one}
 use Rattle.wat.proofs.Basics.{differ}
 use Rattle.wat.proofs.Boundaries.{cut}
-use Rattle.wat.proofs.Unique.{lexed_one}
+use Rattle.wat.proofs.Unique.{token_same, lexed_one}
 use Rattle.wat_laws.proofs.Total.{lexed}
 
 -- ---- refusals 1 to 4
@@ -138,13 +138,13 @@ annotates_one (Annotates.elsewhere t n) (Annotates.fault t' g l) = absurd (n g)
 annotates_one (Annotates.hands_out t g l) (Annotates.too_long h) = absurd (omega (arith, t.short))
 annotates_one (Annotates.hands_out t g l) (Annotates.not_utf8 k s) = absurd (not_both s t.formed)
 annotates_one (Annotates.hands_out t g l) (Annotates.elsewhere t' n) = absurd (n g)
-annotates_one (Annotates.hands_out t g l) (Annotates.hands_out t' g' l') = let z = lexed_one l l' in cc
-annotates_one (Annotates.hands_out t g l) (Annotates.other t' g' n l') = let z = lexed_one l l' in absurd (n (cc))
+annotates_one (Annotates.hands_out t g l) (Annotates.hands_out t' g' l') = let z = (token_same (lexed_one l l')).1 in cc
+annotates_one (Annotates.hands_out t g l) (Annotates.other t' g' n l') = absurd (n (sym (token_same (lexed_one l l')).0))
 annotates_one (Annotates.hands_out t g l) (Annotates.fault t' g' l') = let z = lexed_one l l' in differ (cc)
 annotates_one (Annotates.other t g n l) (Annotates.too_long h) = absurd (omega (arith, t.short))
 annotates_one (Annotates.other t g n l) (Annotates.not_utf8 k s) = absurd (not_both s t.formed)
 annotates_one (Annotates.other t g n l) (Annotates.elsewhere t' m) = refl
-annotates_one (Annotates.other t g n l) (Annotates.hands_out t' g' l') = let z = lexed_one l l' in absurd (n (cc))
+annotates_one (Annotates.other t g n l) (Annotates.hands_out t' g' l') = absurd (n (token_same (lexed_one l l')).0)
 annotates_one (Annotates.other t g n l) (Annotates.other t' g' n' l') = refl
 annotates_one (Annotates.other t g n l) (Annotates.fault t' g' l') = let z = lexed_one l l' in differ (cc)
 annotates_one (Annotates.fault t g l) (Annotates.too_long h) = absurd (omega (arith, t.short))

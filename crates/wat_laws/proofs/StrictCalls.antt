@@ -3,10 +3,11 @@ use Prim.Native.Nat.{ℕ}
 use mathlib.Core.Path.{◌≡◌}
 use mathlib.Core.List.{List}
 use lib.ListN.{drop}
-use Rattle.wat.specs.declared.{Settings.Settings, Answer.Answer, Found.Found, Parsed.Parsed, Listed.Listed, Stop.Stop, LexError.LexError}
+use Rattle.std.specs.Prelude.{Some, None, Ok, Err}
+use Rattle.wat.specs.declared.{Settings.Settings, Found.Found, Parsed.Parsed, Listed.Listed, Stop.Stop, LexError.LexError}
+use Rattle.wat.specs.Answers.{Answer}
 use Rattle.wat.specs.declared.LexError.TheVariants.{DoubleUnderscore}
 use Rattle.wat.specs.declared.Refusal.TheVariants.{Lexical}
-use Rattle.wat.specs.declared.Answer.TheVariants as answer
 use Rattle.wat.specs.declared.Found.TheVariants as found
 use Rattle.wat.specs.declared.Stop.TheVariants as stop
 use Rattle.wat.specs.Utf8.{WellFormed}
@@ -26,9 +27,9 @@ parses_unstrict (Parses.rejected t) n = Parses.rejected t
 parses_unstrict {pos = pos} (Parses.lexes {a = a} s l) n = Parses.lexes s (lexed_unstrict s.between l (other a n))
   where
     other : (a : Answer) → ((p : ℕ) → (at pos a).found ≡ found.Refused (Lexical DoubleUnderscore) p → ⊥) → NotDouble a
-    other answer.End n = tt
-    other (answer.Token k m) n = tt
-    other (answer.Fault f) n = not_double (λ (x : LexError) (p : ℕ). found.Refused (Lexical x) p) f pos n
+    other (Ok None) n = tt
+    other (Ok (Some l)) n = tt
+    other (Err f) n = not_double (λ (x : LexError) (p : ℕ). found.Refused (Lexical x) p) f pos n
 
 pub annotates_unstrict : {σ : Settings} {text : List ℕ} {pos : ℕ} {r : Found} → Annotates σ text pos r
     → ((p : ℕ) → r ≡ found.Refused (Lexical DoubleUnderscore) p → ⊥) → Annotates (unstrict σ) text pos r

@@ -6,9 +6,10 @@ use mathlib.Core.List.{List, ◌++◌}
 use native.Mathlib.Omega.{arith}
 use lib.ListN.{length, drop, length-append}
 use lib.Seq.{drop-append-add}
-use Rattle.wat.specs.declared.{Settings.Settings, Answer.Answer, Parsed.Parsed, Stop.Stop, Listed.Listed}
+use Rattle.std.specs.Prelude.{Some, None, Ok, Err}
+use Rattle.wat.specs.declared.{Settings.Settings, Parsed.Parsed, Stop.Stop, Listed.Listed}
+use Rattle.wat.specs.Answers.{Answer}
 use Rattle.wat.specs.declared.Refusal.TheVariants.{Lexical}
-use Rattle.wat.specs.declared.Answer.TheVariants as answer
 use Rattle.wat.specs.declared.Stop.TheVariants as stop
 use Rattle.wat.specs.Lexing.{Lexed}
 use Rattle.wat.specs.Calls.{Text, Stands, at, Parses}
@@ -17,9 +18,9 @@ use Rattle.wat_laws.specs.Windows.{moved_parsed, moved_stop, moved_listed}
 use Rattle.wat_laws.proofs.OneCall.{stands_or_rejected}
 
 at_moved : (n pos : ℕ) (a : Answer) → at (n + pos) a ≡ moved_parsed n (at pos a)
-at_moved n pos answer.End = refl
-at_moved n pos (answer.Token k m) = let q : n + pos + m ≡ n + (pos + m) = omega arith in cc
-at_moved n pos (answer.Fault f) =
+at_moved n pos (Ok None) = refl
+at_moved n pos (Ok (Some l)) = let q : n + pos + l.len ≡ n + (pos + l.len) = omega arith in cc
+at_moved n pos (Err f) =
     let p : n + pos + f.place ≡ n + (pos + f.place) = omega arith in
     let q : n + pos + f.after ≡ n + (pos + f.after) = omega arith in
     cc

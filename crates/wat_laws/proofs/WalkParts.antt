@@ -6,14 +6,14 @@ use native.Mathlib.Omega.{arith}
 use lib.ListN.{take, drop, take-append-drop}
 use lib.Seq.{drop-drop}
 use Rattle.wat.specs.declared.{TokenKind.TokenKind, Settings.Settings, Family.Family}
-use Rattle.wat.specs.declared.Answer.TheVariants as answer
+use Rattle.wat.specs.Answers as answer
 use Rattle.wat.specs.Utf8.{WellFormed}
 use Rattle.wat.specs.Lexing.{Lexed}
 use Rattle.wat.specs.Calls.{Stands}
 use Rattle.wat.specs.Division.{Piece, lengths, Divided, Walked}
 use Rattle.wat.proofs.Runs.{idchar_ascii}
 use Rattle.wat.proofs.Families.{Families, is_space, is_open, is_close, is_semi, is_single, is_char, is_quote, is_other, families}
-use Rattle.wat.proofs.Unique.{nil_token}
+use Rattle.wat.proofs.Unique.{token_longest, nil_token}
 use Rattle.wat.proofs.Boundaries.{cut, token_formed, space_low, punctuation_low}
 use Rattle.wat_laws.proofs.TokenShapes.{Told, start as told_start}
 use Rattle.wat_laws.proofs.Divisions.{divided_drop, lengths_append}
@@ -63,7 +63,7 @@ divided_cut (u ∷ us) vs (Divided.more l d) = let c = divided_cut us vs d in (c
 
 divided_formed : {σ : Settings} {s rest : List ℕ} {ts : List Piece} → WellFormed s → Divided σ s ts rest → WellFormed rest
 divided_formed g Divided.none = g
-divided_formed g (Divided.more (Lexed.token l f) d) = divided_formed (token_formed g l).1 d
+divided_formed g (Divided.more l d) = divided_formed (token_formed g (token_longest l)).1 d
 
 pub walked_cut : {σ : Settings} {text : List ℕ} {start at : ℕ} (us vs : List Piece) → Walked σ text start at (us ++ vs)
     → Walked σ text start (start + lengths us) us × Walked σ text (start + lengths us) at vs

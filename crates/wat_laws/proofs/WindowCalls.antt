@@ -8,7 +8,8 @@ use native.Mathlib.Omega.{arith}
 use lib.ListN.{length, take, drop, length-append, length-drop, drop_of_length-le}
 use lib.Seq.{take-append-le, drop-append-le}
 use Rattle.wat.specs.declared.{Fault.Fault, Settings.Settings}
-use Rattle.wat.specs.declared.{Answer.Answer, Parsed.Parsed, Stop.Stop, Listed.Listed}
+use Rattle.wat.specs.declared.{Parsed.Parsed, Stop.Stop, Listed.Listed}
+use Rattle.wat.specs.Answers.{Answer}
 use Rattle.wat.specs.declared.Stop.TheVariants as stop
 use Rattle.wat.specs.Utf8.{WellFormed, empty, more}
 use Rattle.wat.specs.Lexing.{Fails, Lexed}
@@ -17,7 +18,7 @@ use Rattle.wat.specs.Division.{Piece, lengths, Divided, Walked, record_size, rec
 use Rattle.wat_laws.specs.Windows.{DecidedAnswer, Decided, DecidedStop}
 use Rattle.wat.proofs.Basics.{below}
 use Rattle.wat.proofs.Scalars.{after}
-use Rattle.wat.proofs.Unique.{nil_fault}
+use Rattle.wat.proofs.Unique.{token_longest, nil_fault}
 use Rattle.wat.proofs.Boundaries.{token_formed}
 use Rattle.wat_laws.proofs.Divisions.{token_size, divided_length, divided_some}
 use Rattle.wat_laws.proofs.OneCall.{stands_or_rejected}
@@ -89,12 +90,12 @@ module _ (front rest : List ℕ) (whole : Text (front ++ rest)) where
       divided_window : {s u : List ℕ} {ts : List Piece} → WellFormed s → Divided σ s ts u → 0 < length u
           → Divided σ (s ++ rest) ts (u ++ rest)
       divided_window g Divided.none k = Divided.none
-      divided_window {s} {u} g (Divided.more {t = t} {ts = us} (Lexed.token l f) d) k =
+      divided_window {s} {u} g (Divided.more {t = t} {ts = us} l d) k =
           let z = divided_length d in
           let n : t.len < length s = omega (arith, length-drop t.len s) in
           let i : Divided σ (drop t.len (s ++ rest)) us (u ++ rest) =
-          rw (drop-append-le t.len s rest l.fits) (divided_window (token_formed g l).1 d k) in
-          Divided.more (window_token rest g (formed_append g formed) (Lexed.token l f) n) i
+          rw (drop-append-le t.len s rest (token_longest l).fits) (divided_window (token_formed g (token_longest l)).1 d k) in
+          Divided.more (window_token rest g (formed_append g formed) l n) i
 
   -- all but the last token of a walk over the front, which may go on in the text
   pub window_walked_last : {σ : Settings} {start at : ℕ} (us : List Piece) (t : Piece) → Walked σ front start at (us ++ (t ∷ []))

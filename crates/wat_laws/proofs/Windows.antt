@@ -10,10 +10,11 @@ use lib.Dec.{eqb, ltb}
 use lib.ListN.{length, length-append}
 use lib.Seq.{take-append-le}
 use borrow.Author.Tests.{eqb-true}
-use Rattle.wat.specs.declared.{TokenKind.TokenKind, Fault.Fault, LexError.LexError, Settings.Settings, Answer.Answer}
+use Rattle.wat.specs.declared.{TokenKind.TokenKind, Fault.Fault, LexError.LexError, Settings.Settings}
+use Rattle.wat.specs.Answers.{Answer}
 use Rattle.wat.specs.declared.TokenKind.TheVariants as kind
 use Rattle.wat.specs.declared.LexError.TheVariants.{DanglingBlockComment, ConfusingUnicode}
-use Rattle.wat.specs.declared.Answer.TheVariants as answer
+use Rattle.wat.specs.Answers as answer
 use Rattle.wat.specs.Faults.{fault, shift}
 use Rattle.wat.specs.Utf8.{WellFormed, empty, more}
 use Rattle.wat.specs.Chars.{space, newline}

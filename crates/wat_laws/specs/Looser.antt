@@ -1,7 +1,7 @@
 -- Settings side by side: which refuse no more than others, and which differ in strict digits alone.
-use Rattle.std.specs.Prelude.{◌≡◌, true, false}
-use Rattle.wat.specs.declared.{Settings.Settings, Answer.Answer}
-use Rattle.wat.specs.declared.Answer.TheVariants as answer
+use Rattle.std.specs.Prelude.{◌≡◌, true, false, Some, None, Ok, Err}
+use Rattle.wat.specs.declared.Settings.{Settings}
+use Rattle.wat.specs.Answers.{Answer}
 use Rattle.wat.specs.declared.LexError.TheVariants.{DoubleUnderscore}
 
 -- τ refuses nothing that σ lets pass
@@ -15,6 +15,6 @@ unstrict σ = record { allow_confusing = σ.allow_confusing; strict_digits = fal
 
 -- an answer other than 25
 abbrev pub NotDouble : Answer → Type 0
-NotDouble answer.End = Unit {0}
-NotDouble (answer.Token k n) = Unit {0}
-NotDouble (answer.Fault f) = f.error ≡ DoubleUnderscore → ⊥
+NotDouble (Ok None) = Unit {0}
+NotDouble (Ok (Some l)) = Unit {0}
+NotDouble (Err f) = f.error ≡ DoubleUnderscore → ⊥

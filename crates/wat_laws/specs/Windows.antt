@@ -1,9 +1,9 @@
 -- The words in which the theorems on listings and windows are said: why a listing stops, which answers for a piece of a
 -- text are the text's own, and answers counted from further ahead.
-use Rattle.std.specs.Prelude.{ℕ, ◌+◌, ◌<◌, ◌≡◌, ◌⊎◌, List, length}
-use Rattle.wat.specs.declared.{Answer.Answer, Found.Found, Parsed.Parsed, Stop.Stop, Listed.Listed, Token.Token}
+use Rattle.std.specs.Prelude.{ℕ, ◌+◌, ◌<◌, ◌≡◌, ◌⊎◌, List, length, Some, None, Ok, Err}
+use Rattle.wat.specs.declared.{Found.Found, Parsed.Parsed, Stop.Stop, Listed.Listed, Token.Token}
+use Rattle.wat.specs.Answers.{Answer}
 use Rattle.wat.specs.declared.{LexError.LexError, Refusal.Refusal}
-use Rattle.wat.specs.declared.Answer.TheVariants as answer
 use Rattle.wat.specs.declared.Found.TheVariants as found
 use Rattle.wat.specs.declared.Stop.TheVariants as stop
 use Rattle.wat.specs.declared.LexError.TheVariants.{DanglingBlockComment}
@@ -26,9 +26,9 @@ Paused why = (why ≡ stop.Budget) ⊎ (why ≡ stop.Full)
 
 -- a byte of s follows what the answer consumes, and the answer is not 10, which looks at all that is left
 abbrev pub DecidedAnswer : List ℕ → Answer → Type 0
-DecidedAnswer s answer.End = ⊥
-DecidedAnswer s (answer.Token k n) = n < length s
-DecidedAnswer s (answer.Fault f) = (f.after < length s) × (f.error ≡ DanglingBlockComment → ⊥)
+DecidedAnswer s (Ok None) = ⊥
+DecidedAnswer s (Ok (Some l)) = l.len < length s
+DecidedAnswer s (Err f) = (f.after < length s) × (f.error ≡ DanglingBlockComment → ⊥)
 
 -- an answer for the front that is also the text's: a token, or an error of lexing other than 10, with the position
 -- afterwards before the front's end

@@ -11,7 +11,7 @@ use Rattle.wat.specs.declared.{IntegerKind.IntegerKind, TokenKind.TokenKind}
 use Rattle.wat.specs.declared.TokenKind.TheVariants as kind
 use Rattle.wat.specs.declared.{Token.Token, Refusal.TheVariants.Lexical, Listed.Listed}
 use Rattle.wat_values.specs.declared.{Reading.Reading, NameKind.NameKind}
-use Rattle.wat.specs.declared.Answer.TheVariants as answer
+use Rattle.wat.specs.Answers as answer
 use Rattle.wat_values.specs.declared.Reading.TheVariants.{Refused, Absent, Text, Buffer}
 use Rattle.wat.specs.declared.Stop.TheVariants as stop
 use Rattle.wat.specs.declared.Settings.{Settings}

@@ -9,7 +9,7 @@ use lib.ListN.{length, take, drop, length-append, length-drop, take-append-drop}
 use lib.Seq.{length-take-le, take-append_seam, drop-drop, drop-append_seam}
 use Rattle.wat.specs.declared.{TokenKind.TokenKind, Token.Token, LexError.LexError, Refusal.Refusal, Refusal.TheVariants.Lexical}
 use Rattle.wat.specs.declared.{Listed.Listed}
-use Rattle.wat.specs.declared.Answer.TheVariants as answer
+use Rattle.wat.specs.Answers as answer
 use Rattle.wat_values.specs.declared.{NameKind.NameKind, NameReading.NameReading}
 use Rattle.wat_values.specs.declared.Reading.TheVariants.{Refused, Text, Buffer}
 use Rattle.wat_values.specs.declared.NameReading.TheVariants as name
@@ -27,6 +27,7 @@ use Rattle.wat_values.specs.Reading.{There, own, found, Read, ReadsName, reading
 use Rattle.wat.proofs.Basics.{differ}
 use Rattle.wat_laws.proofs.Answers.{lexed_lenient, lexed_alone}
 use Rattle.wat.proofs.Boundaries.{token_formed}
+use Rattle.wat.proofs.Unique.{token_longest}
 use Rattle.wat_laws.proofs.Divisions.{token_size}
 use Rattle.wat_values.proofs.ValueLaws.{left_given, refused_misnamed, misnamed_refused, Inside}
 
@@ -40,9 +41,9 @@ at_piece g Divided.none [] vs t e = differ (cc)
 at_piece g Divided.none (u ∷ us) vs t e = differ (cc)
 at_piece {σ} {s} g (Divided.more {t = p} l r) [] vs t e = let q : p ≡ t = cc in
     (g, subst (λ (z : Piece). Lexed σ s (answer.Token z.kind z.len)) q l)
-at_piece {σ} {s} g (Divided.more {t = p} {ts = ts} (Lexed.token l f) r) (u ∷ us) vs t e =
+at_piece {σ} {s} g (Divided.more {t = p} {ts = ts} l r) (u ∷ us) vs t e =
     let q : p ≡ u = cc in
-    let i = at_piece (token_formed g l).1 r us vs t (cc) in
+    let i = at_piece (token_formed g (token_longest l)).1 r us vs t (cc) in
     let d : drop (lengths us) (drop p.len s) ≡ drop (u.len + lengths us) s =
     ap (λ (z : Piece). drop (lengths us) (drop z.len s)) q ∙ drop-drop (lengths us) u.len s in
     subst (λ (z : List ℕ). WellFormed z × Lexed σ z (answer.Token t.kind t.len)) d i

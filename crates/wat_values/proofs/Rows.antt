@@ -5,6 +5,7 @@ use mathlib.Core.Path.{◌≡◌, refl, subst}
 use mathlib.Core.Bool.{true, false}
 use mathlib.Core.List.{List, [], ◌∷◌, map}
 use lib.ListN.{drop}
+use Rattle.std.specs.Prelude.{Some, None, Ok, Err}
 use Rattle.wat.specs.Faults.{fault}
 use Rattle.wat.specs.declared.FloatKind.TheVariants.{Normal}
 use Rattle.wat.specs.declared.Sign.TheVariants.{Unsigned}
@@ -13,8 +14,7 @@ use Rattle.wat.specs.declared.TokenKind.TheVariants as kind
 use Rattle.wat.specs.declared.LexError.TheVariants.{DanglingBlockComment, InvalidHexDigit, NumberTooBig, InvalidUnicodeValue}
 use Rattle.wat.specs.declared.LexError.TheVariants.{LoneUnderscore, EmptyId, DoubleUnderscore}
 use Rattle.wat.specs.declared.Settings.{Settings}
-use Rattle.wat.specs.declared.Answer.{Answer}
-use Rattle.wat.specs.declared.Answer.TheVariants.{End, Token, Fault}
+use Rattle.wat.specs.Answers.{Answer, End, Token, Fault}
 use Rattle.wat.specs.declared.Checked.TheVariants.{Ok}
 use Rattle.wat.specs.Bytes.{bytes, between, has}
 use Rattle.wat.specs.Settings.{plain}
@@ -113,9 +113,9 @@ rows =
 
 -- what the definitions say of a row: what readers leave of its token, or that no tokens are its one division
 abbrev Leaves : Settings → Answer → List ℕ → List (Reader × Value) → Type 0
-Leaves σ (Token k n) w rs = All (λ r. Reads r.0 k w r.1) rs
-Leaves σ End w rs = Division σ w []
-Leaves σ (Fault f) w rs = Unit {0}
+Leaves σ (Ok (Some l)) w rs = All (λ r. Reads r.0 l.kind w r.1) rs
+Leaves σ (Ok None) w rs = Division σ w []
+Leaves σ (Err f) w rs = Unit {0}
 
 abbrev LeavesOf : Row → Type 0
 LeavesOf r = Leaves r.settings r.answer r.text r.reads

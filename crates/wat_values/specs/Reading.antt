@@ -5,7 +5,7 @@ use Rattle.wat_values.specs.declared.{Reading.Reading, NameKind.NameKind, NameRe
 use Rattle.wat_values.specs.declared.{IntegerSign.IntegerSign, FloatSign.FloatSign}
 use Rattle.wat.specs.declared.TokenKind.TheVariants as kind
 use Rattle.wat.specs.declared.FloatKind.TheVariants.{Inf, Nan, NanVal, Normal}
-use Rattle.wat.specs.declared.Answer.TheVariants as answer
+use Rattle.wat.specs.Answers as answer
 use Rattle.wat.specs.declared.Refusal.TheVariants.{Lexical, NotThatToken, NotThatKind, BufferTooShort}
 use Rattle.wat_values.specs.declared.Reading.TheVariants.{Refused, Absent, Text, Buffer}
 use Rattle.wat_values.specs.declared.NameReading.TheVariants as name

@@ -1,6 +1,6 @@
 use Rattle.std.proofs.Common.{sym, subst, ◌∙◌}
 use Rattle.wat.specs.declared.TokenKind.TheVariants as kind
-use Rattle.wat.specs.declared.Answer.{Answer}
+use Rattle.wat.specs.Answers.{Answer}
 use Rattle.lex_token.specs.Steps.{Faults}
 use Rattle.lex_token.proofs.CommentLaws.{block_closed}
 use Rattle.lex_calls.proofs.block_fault.Goals as goal

@@ -1,11 +1,11 @@
-use Rattle.lex_calls.proofs.CallLaws.{parsed}
+use Rattle.wat.specs.Calls.{Parses}
 use Rattle.lex_calls.proofs.parse_at.Goals as goal
 
-pub returns-in-End : goal.returns-in-End
-returns-in-End c = parsed _ _ _ c.requires c.next.ensures c.in-End.is
+pub returns-in-Ok-None : goal.returns-in-Ok-None
+returns-in-Ok-None c = Parses.lexes c.requires (rw c.in-Ok-None.field-0-is at c.in-Ok-None.ensures)
 
-pub returns-in-Token : goal.returns-in-Token
-returns-in-Token c = parsed _ _ _ c.requires c.next.ensures c.in-Token.is
+pub returns-in-Ok-Some : goal.returns-in-Ok-Some
+returns-in-Ok-Some c = Parses.lexes c.requires (rw c.in-Ok-Some.field-0-is at c.in-Ok-Some.ensures)
 
-pub returns-in-Fault : goal.returns-in-Fault
-returns-in-Fault c = parsed _ _ _ c.requires c.next.ensures c.in-Fault.is
+pub returns-in-Err : goal.returns-in-Err
+returns-in-Err c = Parses.lexes c.requires c.in-Err.ensures

@@ -6,8 +6,8 @@ abbrev pub decreases-inner : goal.decreases-inner
 decreases-inner l = l.left
 
 -- up to here stand forms and other tokens
-abbrev pub invariant-loop-fault : goal.invariant-loop-fault
-invariant-loop-fault l = Passed l.settings l.text l.start l.left l.at
+abbrev pub invariant-loop-kind : goal.invariant-loop-kind
+invariant-loop-kind l = Passed l.settings l.text l.start l.left l.at
 
-abbrev pub decreases-loop-fault : goal.decreases-loop-fault
-decreases-loop-fault l = length l.text - l.at
+abbrev pub decreases-loop-kind : goal.decreases-loop-kind
+decreases-loop-kind l = length l.text - l.at
