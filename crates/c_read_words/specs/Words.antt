@@ -1,10 +1,9 @@
 -- The answers of the readers and of the messages as words, for C: the layout that include/thallusweb.h explains.
-use Rattle.std.specs.Prelude.{ℕ, List, [], ◌∷◌, ◌++◌}
-use Rattle.wat.specs.declared.{Sign.Sign}
+use Rattle.std.specs.Prelude.{ℕ, List, [], ◌∷◌, ◌++◌, Result, Ok, Err}
+use Rattle.wat.specs.declared.{Sign.Sign, Refusal.Refusal}
 use Rattle.wat_values.specs.declared.{Reading.Reading, NameKind.NameKind, NameReading.NameReading}
 use Rattle.wat_values.specs.declared.{IntegerSign.IntegerSign, FloatSign.FloatSign}
 use Rattle.wat_values.specs.declared.IntegerValue.{IntegerValue}
-use Rattle.messages.specs.declared.Told.{Told}
 use Rattle.wat.specs.declared.Sign.TheVariants.{Unsigned, Plus, Minus}
 use Rattle.wat.specs.declared.TokenKind.TheVariants as kind
 use Rattle.wat_values.specs.declared.Reading.TheVariants as reading
@@ -13,7 +12,6 @@ use Rattle.wat_values.specs.declared.NameReading.TheVariants as name
 use Rattle.wat_values.specs.declared.IntegerSign.TheVariants as integer
 use Rattle.wat_values.specs.declared.IntegerValue.TheVariants as value
 use Rattle.wat_values.specs.declared.FloatSign.TheVariants as float
-use Rattle.messages.specs.declared.Told.TheVariants as message
 use Rattle.wat.specs.Cases.{flag, kind_number}
 use Rattle.wat_values.specs.Reading.{no_place, reading_of}
 use Rattle.wat_values.specs.Integers.{out_of_range_number}
@@ -62,6 +60,6 @@ float_sign_words float.Absent = 0 ∷ 0 ∷ 0 ∷ 0 ∷ 0 ∷ []
 float_sign_words (float.Negative n) = 1 ∷ flag n 1 ∷ 0 ∷ 0 ∷ 0 ∷ []
 
 -- a message of so many bytes, or a refusal, which has no place
-abbrev pub message_words : Told → List ℕ
-message_words (message.Written n) = 1 ∷ n ∷ 0 ∷ 0 ∷ 0 ∷ []
-message_words (message.Refused r) = refused_words r 0
+abbrev pub message_words : Result ℕ Refusal → List ℕ
+message_words (Ok n) = 1 ∷ n ∷ 0 ∷ 0 ∷ 0 ∷ []
+message_words (Err r) = refused_words r 0

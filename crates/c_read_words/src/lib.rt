@@ -5,8 +5,7 @@ ghost use Rattle.std.specs.Prelude.{◌≡◌};
 ghost use Rattle.c_read_words.specs.Words.{reading_words, name_words, name_word, kind_word};
 ghost use Rattle.c_read_words.specs.Words.{integer_sign_words, integer_words, float_sign_words, message_words};
 
-use messages::Told;
-use wat::Sign;
+use wat::{Refusal, Sign};
 use wat_values::{FloatSign, IntegerSign, IntegerValue, NameKind, NameReading, Reading};
 
 // What a reader found of a token.
@@ -93,11 +92,11 @@ pub fn float_sign_words(s: FloatSign) -> [u64; 5]
     }
 }
 
-pub fn message_words(m: Told) -> [u64; 5]
+pub fn message_words(m: Result<usize, Refusal>) -> [u64; 5]
     ensures { result ≡ message_words m }
 {
     match m {
-        Told::Written(n) => [1, n as u64, 0, 0, 0],
-        Told::Refused(r) => c_words::refused_words(r, 0),
+        Ok(n) => [1, n as u64, 0, 0, 0],
+        Err(r) => c_words::refused_words(r, 0),
     }
 }

@@ -9,7 +9,7 @@ use lib.Dec.{eqb}
 use lib.ListN.{length, take, drop}
 use borrow.Author.Tests.{lt-ltb, le-ltb, ne_eqb}
 use Rattle.wat.specs.declared.Refusal.TheVariants.{BufferTooShort, NoMessage}
-use Rattle.messages.specs.declared.Told.TheVariants.{Refused, Written}
+use Rattle.std.specs.Prelude.{Ok, Err}
 use Rattle.wat.specs.{Bytes.bytes, Bytes.between, Chars.is_scalar, Chars.confusing}
 use Rattle.wat.proofs.Basics.{between_in, between_under, between_over, between_true}
 use Rattle.buffers.specs.Writing.{Added}
@@ -74,7 +74,7 @@ tellable_known n a b t = between_true 10 24 n (and_left (between 10 24 n) (not (
 
 -- ---- the answer
 
-pub untold : (n a b : ℕ) (buffer : List ℕ) → tellable n a b ≡ false → (Refused NoMessage, buffer) ≡ answer n a b buffer
+pub untold : (n a b : ℕ) (buffer : List ℕ) → tellable n a b ≡ false → (Err NoMessage, buffer) ≡ answer n a b buffer
 unfolding answer
 untold n a b buffer t = rw (t, answer)
 
@@ -89,14 +89,14 @@ fit n a b buffer t = rw (t, answer)
 
 pub cut :
     {text new buffer m : List ℕ} {k : ℕ} → Added text new 0 m k → length buffer < k
-    → (Refused BufferTooShort, buffer) ≡ fitted m buffer
+    → (Err BufferTooShort, buffer) ≡ fitted m buffer
 unfolding fitted
 cut {buffer = buffer} {m = m} w h = rw (lt-ltb (length buffer) (length m) (omega (arith, w.ends)), fitted)
 
 pub delivered :
     {text new buffer left m : List ℕ} {k end : ℕ} → Added text new 0 m k → k ≤ length buffer
     → Added buffer left 0 (take k new) end
-    → (Written k, left) ≡ fitted m buffer
+    → (Ok k, left) ≡ fitted m buffer
 unfolding fitted
 delivered {buffer = buffer} {left = left} {m = m} {k = k} w h p =
     let q = added_same (added_front w) p in

@@ -8,12 +8,12 @@ use native.Mathlib.Omega.{arith}
 use lib.Dec.{eqb}
 use lib.ListN.{length, get_or, take}
 use borrow.Author.Tests.{eq-eqb}
-use Rattle.wat.specs.declared.LexError.{LexError}
+use Rattle.wat.specs.declared.{LexError.LexError, Refusal.Refusal}
 use Rattle.wat.specs.declared.LexError.TheVariants as error
 use Rattle.wat.specs.declared.Refusal.TheVariants as refusal
 use Rattle.wat.specs.{Bytes.between, Cases.error_number}
 use Rattle.wat.proofs.Basics.{between_true, below, never}
-use Rattle.messages.specs.declared.Told.{Told}
+use Rattle.std.specs.Prelude.{Result}
 use Rattle.messages.specs.Messages.{Tells}
 use Rattle.messages.specs.ByNumber.{bits, Spelled, TellsBy}
 use Rattle.messages.specs.MessageModel.{wide, answer}
@@ -107,7 +107,7 @@ tells_spelled n a b c d buffer {e} f g s =
     taken (error_number e).1 s.values (λ h. f (rw r at (s.first h))) (λ h. g (rw r at (s.second h)))))
 
 pub tells_by :
-    (n a b c d : ℕ) {buffer left : List ℕ} {m : Told} → wide n a b ≡ false → a < 2 ^ 64 → b < 2 ^ 64
+    (n a b c d : ℕ) {buffer left : List ℕ} {m : Result ℕ Refusal} → wide n a b ≡ false → a < 2 ^ 64 → b < 2 ^ 64
     → (a < 2 ^ 32 → c ≡ a) → (b < 2 ^ 32 → d ≡ b) → (m, left) ≡ answer n c d buffer
     → TellsBy n a b buffer m left
 tells_by n a b c d {buffer} {left} {m} w h l f g z = go (errors n) refl
@@ -117,14 +117,14 @@ tells_by n a b c d {buffer} {left} {m} w h l f g z = go (errors n) refl
         let s = (spelled n a b k w h l).1 in TellsBy.error s (answered _ buffer z (tells_spelled n a b c d buffer f g s))
     go false k =
         subst
-        (λ (x : Told × List ℕ). TellsBy n a b buffer x.0 x.1)
+        (λ (x : Result ℕ Refusal × List ℕ). TellsBy n a b buffer x.0 x.1)
         (untold n c d buffer (sym (unknown n c d (no_error n k))) ∙ sym z)
         (TellsBy.none (λ e s. no_number k e s.numbered))
 
 -- ---- no other answer
 
 pub tells_by_one :
-    {n a b : ℕ} {buffer c c' : List ℕ} {m m' : Told} → TellsBy n a b buffer m c → TellsBy n a b buffer m' c'
+    {n a b : ℕ} {buffer c c' : List ℕ} {m m' : Result ℕ Refusal} → TellsBy n a b buffer m c → TellsBy n a b buffer m' c'
     → (m ≡ m') × (c ≡ c')
 tells_by_one {n} {a} {b} {buffer} (TellsBy.error s t) (TellsBy.error s' t') =
     let p = tells_one t (tells_spelled n a b a b buffer (λ h. refl) (λ h. refl) s) in

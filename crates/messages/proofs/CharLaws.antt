@@ -15,7 +15,7 @@ use Rattle.messages.specs.Messages.{named, Shown}
 use Rattle.wat.proofs.Basics.{differ, between_in, between_under, between_over, between_true, AllPairs, pairs_listed}
 use Rattle.wat.proofs.ScalarValues.{scalar_low}
 use Rattle.messages.proofs.OneMessage.{shown_one}
-use Rattle.messages.specs.Spelled.{hex, letter_byte, shown}
+use Rattle.messages.specs.Spelled.{hex, shown}
 use Rattle.buffers.proofs.AddedLaws.{added_length, added_one, added_then}
 use Rattle.messages.proofs.HexLaws.{hexed, hex_fits, hex_8}
 
@@ -39,29 +39,18 @@ letter_none (p ∷ t) c a = rw (ne_eqb c p.0 a.0) (letter_none t c a.1)
 
 -- what holds of the five
 abbrev Named : ℕ → ℕ → Type 0
-Named c l = (letter_of named c ≡ some l) × (is_scalar c ≡ true) × (0 < l)
+Named c l = (letter_of named c ≡ some l) × (is_scalar c ≡ true)
 
 five : AllPairs Named named
 unfolding named is_scalar
-five = (
-  (refl, refl, omega arith),
-  ((refl, refl, omega arith), ((refl, refl, omega arith), ((refl, refl, omega arith), ((refl, refl, omega arith), tt)))),
-)
+five = ((refl, refl), ((refl, refl), ((refl, refl), ((refl, refl), ((refl, refl), tt)))))
 
 is_named : {c l : ℕ} → Memᴰ (c, l) named → Named c l
 is_named m = pairs_listed Named named five m
 
--- the letter's byte is 0 just where there is none
-pub unlettered : {b : ℕ} (c : ℕ) → b ≡ letter_byte (letter_of named c) → b ≡ 0 → letter_of named c ≡ none
-unlettered {b} c e z = go (letter_of named c) refl e
-  where
-    go : (o : Option ℕ) → letter_of named c ≡ o → b ≡ letter_byte o → letter_of named c ≡ none
-    go none q e = q
-    go (some l) q e = let k = (is_named (letter_listed named c l q)).2 in absurd (omega arith)
-
 -- ---- characters
 
-shown_named : (c l : ℕ) → letter_of named c ≡ some l → shown c ≡ byte "\\" ∷ l ∷ []
+pub shown_named : (c l : ℕ) → letter_of named c ≡ some l → shown c ≡ byte "\\" ∷ l ∷ []
 unfolding shown
 shown_named c l e = rw (e, shown)
 
@@ -125,6 +114,6 @@ shown_12 c h = shown_fits c 7 (omega arith)
 
 -- for the tactics
 
-pub ruleset characters = (added_length, added_one, hex_8, unlettered, between_in)
+pub ruleset characters = (added_length, added_one, hex_8, between_in)
 
 pub ruleset texts = (added_length, shown_12)

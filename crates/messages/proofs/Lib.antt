@@ -1,7 +1,6 @@
 pub mod OneMessage
 pub mod HexLaws
 pub mod CharLaws
-mod LeadLaws
 pub mod MessageLaws
 mod AnswerLaws
 mod TellLaws

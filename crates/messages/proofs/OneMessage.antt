@@ -6,7 +6,7 @@ use mathlib.Core.Option.{some}
 use native.Mathlib.Omega.{arith}
 use lib.ListN.{length}
 use Rattle.wat.specs.declared.{LexError.LexError, Refusal.Refusal}
-use Rattle.messages.specs.declared.Told.{Told}
+use Rattle.std.specs.Prelude.{Result}
 use Rattle.wat.specs.declared.Refusal.TheVariants.{Lexical}
 use Rattle.messages.specs.Messages.{Hexed, named, Shown, Displays, Tells}
 use Rattle.wat.specs.StringModel.{letter_of}
@@ -69,7 +69,7 @@ asked_one : {r : Refusal} {e e' : LexError} {m m' : List ℕ} → r ≡ Lexical 
     → Displays e' m' → m ≡ m'
 asked_one {e = e} {e' = e'} p q d d' = let z : e ≡ e' = cc in displays_one (rw z at d) d'
 
-pub tells_one : {r : Refusal} {buffer b b' : List ℕ} {a a' : Told} → Tells r buffer a b → Tells r buffer a' b'
+pub tells_one : {r : Refusal} {buffer b b' : List ℕ} {a a' : Result ℕ Refusal} → Tells r buffer a b → Tells r buffer a' b'
     → (a ≡ a') × (b ≡ b')
 tells_one (Tells.none n) (Tells.none n') = (refl, refl)
 tells_one (Tells.none n) (Tells.too_short {e = e} {m = m} p d h) = absurd (n e m p d)

@@ -14,7 +14,7 @@ use Rattle.wat.specs.{Bytes.between, Cases.error_number, Cases.number, Utf8Model
 use Rattle.wat.proofs.Basics.{between_in, between_true, never}
 use Rattle.codes.specs.declared.Code.{Code}
 use Rattle.codes.specs.Coded.{Coded}
-use Rattle.messages.specs.declared.Told.{Told}
+use Rattle.std.specs.Prelude.{Result}
 use Rattle.messages.specs.Messages.{Displays, Tells}
 use Rattle.messages.specs.MessageModel.{known, tellable, fitted, answer}
 use Rattle.messages.proofs.MessageLaws.{Carries, values, displays, has_message}
@@ -43,9 +43,9 @@ fits {e} {m} buffer d = go (ltb (length buffer) (length m)) refl
     go false p = rw (p, fitted) (Tells.told refl d (ltb-false (length buffer) (length m) p))
 
 -- the same answer, where `Tells` asks its equal
-pub answered : (r : Refusal) (buffer : List ℕ) {x y : Told × List ℕ} → x ≡ y → Tells r buffer y.0 y.1
+pub answered : (r : Refusal) (buffer : List ℕ) {x y : Result ℕ Refusal × List ℕ} → x ≡ y → Tells r buffer y.0 y.1
     → Tells r buffer x.0 x.1
-answered r buffer q t = subst (λ (z : Told × List ℕ). Tells r buffer z.0 z.1) (sym q) t
+answered r buffer q t = subst (λ (z : Result ℕ Refusal × List ℕ). Tells r buffer z.0 z.1) (sym q) t
 
 pub tells :
     (e : LexError) (a b : ℕ) (buffer : List ℕ) → Carries (values e) a b
@@ -129,12 +129,12 @@ module _ {c : Code} {a b : ℕ} (p : c.first < 2 ^ 32 → a ≡ c.first) (q : c.
       rw (z.0, z.1) (own (error_number e).1)
 
   coded :
-      {left : List ℕ} {m : Told} {n : ℕ × List ℕ} → Coded n c → (m, left) ≡ answer c.number a b buffer
+      {left : List ℕ} {m : Result ℕ Refusal} {n : ℕ × List ℕ} → Coded n c → (m, left) ≡ answer c.number a b buffer
       → (m, left) ≡ answer n.0 a b buffer
   coded d z = z ∙ ap (λ (n : ℕ). answer n a b buffer) d.numbered
 
   other :
-      {left : List ℕ} {m : Told} (r : Refusal) → errors (number r).0 ≡ false → Coded (number r) c
+      {left : List ℕ} {m : Result ℕ Refusal} (r : Refusal) → errors (number r).0 ≡ false → Coded (number r) c
       → (m, left) ≡ answer c.number a b buffer → Tells r buffer m left
   other r k d z =
       answered
@@ -144,7 +144,7 @@ module _ {c : Code} {a b : ℕ} (p : c.first < 2 ^ 32 → a ≡ c.first) (q : c.
       (Tells.none (λ e t x y. no_number k e (sym (ap (λ (s : Refusal). (number s).0) x))))
 
   pub tells_refusal :
-      {left : List ℕ} {m : Told} (r : Refusal) → Coded (number r) c → (m, left) ≡ answer c.number a b buffer
+      {left : List ℕ} {m : Result ℕ Refusal} (r : Refusal) → Coded (number r) c → (m, left) ≡ answer c.number a b buffer
       → Tells r buffer m left
   unfolding between errors
   tells_refusal refusal.TooLong d z = other refusal.TooLong refl d z

@@ -1,9 +1,7 @@
 -- The message of the error that a number and two values name, as a C caller passes them.
-use Rattle.std.specs.Prelude.{ℕ, ◌^◌, ◌<◌, ◌≡◌, true, false, List, [], ◌∷◌, eqb, length, take}
-use Rattle.wat.specs.declared.LexError.{LexError}
+use Rattle.std.specs.Prelude.{ℕ, ◌^◌, ◌<◌, ◌≡◌, true, false, List, [], ◌∷◌, eqb, length, take, Result, Err}
+use Rattle.wat.specs.declared.{LexError.LexError, Refusal.Refusal}
 use Rattle.wat.specs.declared.Refusal.TheVariants.{Lexical, NoMessage}
-use Rattle.messages.specs.declared.Told.{Told}
-use Rattle.messages.specs.declared.Told.TheVariants.{Refused}
 use Rattle.wat.specs.Cases.{error_number}
 use Rattle.messages.specs.Messages.{Tells}
 
@@ -20,8 +18,8 @@ pub record Spelled (n a b : ℕ) (e : LexError) : Type 0 where
   pub second : 1 < length (error_number e).1 → b < 2 ^ bits n
 
 -- the call by number and values: the message of the error that they name; 34 where they name none
-pub data TellsBy (n a b : ℕ) (buffer : List ℕ) : Told → List ℕ → Type 0 where
+pub data TellsBy (n a b : ℕ) (buffer : List ℕ) : Result ℕ Refusal → List ℕ → Type 0 where
   error :
-      {e : LexError} {m : Told} {c : List ℕ} → Spelled n a b e → Tells (Lexical e) buffer m c
+      {e : LexError} {m : Result ℕ Refusal} {c : List ℕ} → Spelled n a b e → Tells (Lexical e) buffer m c
       → TellsBy n a b buffer m c
-  none : ((e : LexError) → Spelled n a b e → ⊥) → TellsBy n a b buffer (Refused NoMessage) buffer
+  none : ((e : LexError) → Spelled n a b e → ⊥) → TellsBy n a b buffer (Err NoMessage) buffer

@@ -1,9 +1,8 @@
 -- Messages by an error's number and two values, by functions that compute. `proofs/` shows that they say what
 -- `Messages` asks.
-use Rattle.std.specs.Prelude.{ℕ, Bool, true, false, ◌&&◌, ◌||◌, not, List, [], ◌++◌, eqb, ltb, length, drop}
+use Rattle.std.specs.Prelude.{ℕ, Bool, true, false, ◌&&◌, ◌||◌, not, List, [], ◌++◌, eqb, ltb, length, drop, Result, Ok, Err}
+use Rattle.wat.specs.declared.Refusal.{Refusal}
 use Rattle.wat.specs.declared.Refusal.TheVariants.{BufferTooShort, NoMessage}
-use Rattle.messages.specs.declared.Told.{Told}
-use Rattle.messages.specs.declared.Told.TheVariants.{Refused, Written}
 use Rattle.wat.specs.{Bytes.bytes, Bytes.between, Chars.is_scalar, Chars.confusing}
 use Rattle.messages.specs.Spelled.{hex, shown, lead}
 
@@ -49,13 +48,13 @@ unfoldable pub message : ℕ → ℕ → ℕ → List ℕ
 message n a b = lead n ++ rest n a b
 
 -- a message put into a buffer: the call's answer, and the buffer afterwards
-unfoldable pub fitted : List ℕ → List ℕ → Told × List ℕ
+unfoldable pub fitted : List ℕ → List ℕ → Result ℕ Refusal × List ℕ
 fitted m buffer =
     elim (ltb (length buffer) (length m)) [
-      | true ↦ (Refused BufferTooShort, buffer)
-      | false ↦ (Written (length m), m ++ drop (length m) buffer)
+      | true ↦ (Err BufferTooShort, buffer)
+      | false ↦ (Ok (length m), m ++ drop (length m) buffer)
     ]
 
-unfoldable pub answer : ℕ → ℕ → ℕ → List ℕ → Told × List ℕ
+unfoldable pub answer : ℕ → ℕ → ℕ → List ℕ → Result ℕ Refusal × List ℕ
 answer n a b buffer =
-    elim (tellable n a b) [ true ↦ fitted (message n a b) buffer | false ↦ (Refused NoMessage, buffer) ]
+    elim (tellable n a b) [ true ↦ fitted (message n a b) buffer | false ↦ (Err NoMessage, buffer) ]

@@ -1,8 +1,7 @@
 -- The message of an error: the Rust's `Display` of `LexError` (docs/RULES.md, 13).
-use Rattle.std.specs.Prelude.{ℕ, ◌+◌, ◌*◌, ◌≤◌, ◌<◌, ◌≡◌, true, false, length, drop, get_or}
+use Rattle.std.specs.Prelude.{ℕ, ◌+◌, ◌*◌, ◌≤◌, ◌<◌, ◌≡◌, true, false, length, drop, get_or, Result, Ok, Err}
 use mathlib.Core.List.{List, [], ◌∷◌, ◌++◌, Memᴰ}
 use Rattle.wat.specs.declared.{LexError.LexError, Refusal.Refusal}
-use Rattle.messages.specs.declared.Told.{Told}
 use Rattle.wat.specs.declared.LexError.TheVariants.{DanglingBlockComment, Unexpected}
 use Rattle.wat.specs.declared.LexError.TheVariants.{InvalidStringElement, InvalidStringEscape}
 use Rattle.wat.specs.declared.LexError.TheVariants.{InvalidHexDigit, Expected, UnexpectedEof}
@@ -10,7 +9,6 @@ use Rattle.wat.specs.declared.LexError.TheVariants.{NumberTooBig, InvalidUnicode
 use Rattle.wat.specs.declared.LexError.TheVariants.{LoneUnderscore, ConfusingUnicode}
 use Rattle.wat.specs.declared.LexError.TheVariants.{InvalidUtf8Id, EmptyId, EmptyAnnotation}
 use Rattle.wat.specs.declared.Refusal.TheVariants.{Lexical, BufferTooShort, NoMessage}
-use Rattle.messages.specs.declared.Told.TheVariants.{Refused, Written}
 use Rattle.wat.specs.{Bytes.bytes, Bytes.byte, Bytes.between, Chars.is_scalar, Chars.confusing}
 
 abbrev pub figure : ℕ → ℕ
@@ -58,9 +56,9 @@ pub data Displays : LexError → List ℕ → Type 0 where
   empty_annotation : Displays EmptyAnnotation (bytes "empty annotation id")
 
 -- the call: its answer, and the buffer afterwards. 34 where there is no message, then 32
-pub data Tells (r : Refusal) (buffer : List ℕ) : Told → List ℕ → Type 0 where
-  none : ((e : LexError) (m : List ℕ) → r ≡ Lexical e → Displays e m → ⊥) → Tells r buffer (Refused NoMessage) buffer
+pub data Tells (r : Refusal) (buffer : List ℕ) : Result ℕ Refusal → List ℕ → Type 0 where
+  none : ((e : LexError) (m : List ℕ) → r ≡ Lexical e → Displays e m → ⊥) → Tells r buffer (Err NoMessage) buffer
   too_short : {e : LexError} {m : List ℕ} → r ≡ Lexical e → Displays e m → length buffer < length m
-      → Tells r buffer (Refused BufferTooShort) buffer
+      → Tells r buffer (Err BufferTooShort) buffer
   told : {e : LexError} {m : List ℕ} → r ≡ Lexical e → Displays e m → length m ≤ length buffer
-      → Tells r buffer (Written (length m)) (m ++ drop (length m) buffer)
+      → Tells r buffer (Ok (length m)) (m ++ drop (length m) buffer)

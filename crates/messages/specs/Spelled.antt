@@ -1,6 +1,6 @@
 -- Pieces of messages, by functions that compute. `proofs/` shows that they say what `Messages` asks.
 use Rattle.std.specs.Prelude.{ℕ, zero, suc, ◌-◌, ◌/◌, ◌%◌, true, false, List, [], ◌∷◌, ◌++◌, ltb, get_or}
-use Rattle.std.proofs.Math.Option.{Option, none, some}
+use Rattle.std.proofs.Math.Option.{none, some}
 use Rattle.wat.specs.{Bytes.bytes, Bytes.byte, Bytes.between}
 use Rattle.wat.specs.StringModel.{letter_of}
 use Rattle.messages.specs.Messages.{figure, named}
@@ -12,11 +12,6 @@ hex_by (suc k) n = elim (ltb n 16) [ true ↦ figure n ∷ [] | false ↦ hex_by
 
 unfoldable pub hex : ℕ → List ℕ
 hex n = hex_by n n
-
--- a letter that may be missing, as a byte
-abbrev pub letter_byte : Option ℕ → ℕ
-letter_byte (some l) = l
-letter_byte none = 0
 
 -- a character as a message shows it
 unfoldable pub shown : ℕ → List ℕ

@@ -1,39 +1,39 @@
 // The message of an error: the Rust's `Display` of `LexError`, into a lent buffer, as specs/Messages defines it.
 #![tactic(auto)]
 
-ghost use Rattle.std.specs.Prelude.{◌+◌, ◌^◌, ◌≤◌, ◌<◌, ◌≡◌, ◌++◌, length};
+ghost use Rattle.std.specs.Prelude.{◌+◌, ◌^◌, ◌≤◌, ◌<◌, ◌≡◌, ◌++◌, length, IfSome, IfNone};
+ghost use Rattle.std.proofs.Math.Option.{none, some};
 ghost use Rattle.wat.specs.Bytes.{bytes};
 ghost use Rattle.wat.specs.StringModel.{letter_of};
 ghost use Rattle.buffers.specs.Writing.{Added};
 ghost use Rattle.messages.specs.Messages.{figure, named, Tells};
 ghost use Rattle.messages.specs.ByNumber.{TellsBy};
-ghost use Rattle.messages.specs.Spelled.{hex, letter_byte, shown, longest_lead, longest_rest, lead as lead_of};
+ghost use Rattle.messages.specs.Spelled.{hex, shown, longest_lead, longest_rest, lead as lead_of};
 ghost use Rattle.messages.specs.MessageModel.{known, wide, tellable, answer};
 ghost use Rattle.messages.specs.MessageModel.{rest as rest_of, message as message_of};
 
 use wat::Refusal;
 
-// A message of so many bytes at the front of the buffer, or a refusal.
-#[derive(Clone, Copy)]
-pub enum Told {
-    Refused(Refusal),
-    Written(usize),
-}
-
-// Writes an error's message to the front of the buffer. Refused by 34 if there is none, then by 32 if it is too long.
-pub fn message(r: Refusal, buffer: &mut [u8]) -> Told
+// Writes an error's message to the front of the buffer, and answers how many bytes it has. Refused by 34 if there is
+// none, then by 32 if it is too long.
+pub fn message(r: Refusal, buffer: &mut [u8]) -> Result<usize, Refusal>
     ensures { Tells r buffer.old result buffer.new }
 {
     let c = codes::refusal_code(r);
-    tell(c.number as u64, narrow(c.first), narrow(c.second), buffer)
+    tell(
+        u64::from(c.number),
+        narrow(c.first),
+        narrow(c.second),
+        buffer,
+    )
 }
 
 // The same for the error that has the number and, of the values, those that it carries. 34 if no error has them.
-pub fn message_of(number: u64, first: u64, second: u64, buffer: &mut [u8]) -> Told
+pub fn message_of(number: u64, first: u64, second: u64, buffer: &mut [u8]) -> Result<usize, Refusal>
     ensures { TellsBy number first second buffer.old result buffer.new }
 {
     if is_wide(number, first, second) {
-        return Told::Refused(Refusal::NoMessage);
+        return Err(Refusal::NoMessage);
     }
     tell(number, narrow(first), narrow(second), buffer)
 }
@@ -51,10 +51,7 @@ fn is_wide(number: u64, first: u64, second: u64) -> bool
 fn narrow(value: u64) -> u32
     ensures { value < 2 ^ 32 → result ≡ value }
 {
-    if 0xFFFF_FFFF < value {
-        return 0;
-    }
-    value as u32
+    u32::try_from(value).unwrap_or(0)
 }
 
 // The longest text that a message begins with.
@@ -65,27 +62,28 @@ const LONGEST_REST: usize = 38;
 
 // What both calls return. The message is made in a buffer that has room for any lead with any rest, and copied.
 #[tactic(auto, using(crate::proofs::AnswerLaws::answers))]
-fn tell(number: u64, first: u32, second: u32, buffer: &mut [u8]) -> Told
+fn tell(number: u64, first: u32, second: u32, buffer: &mut [u8]) -> Result<usize, Refusal>
     ensures { (result, buffer.new) ≡ answer number first second buffer.old }
 {
     if !has_message(number, first, second) {
-        return Told::Refused(Refusal::NoMessage);
+        return Err(Refusal::NoMessage);
     }
     let mut text = [0u8; LONGEST_LEAD + LONGEST_REST];
     let n = fmt(number, first, second, &mut text);
     if buffer.len() < n {
-        return Told::Refused(Refusal::BufferTooShort);
+        return Err(Refusal::BufferTooShort);
     }
     buffers::append(buffer, 0, &text[..n]);
-    Told::Written(n)
+    Ok(n)
 }
 
 // Writes the message to the front of `out`; returns its length.
+#[tactic(auto, using(crate::proofs::CharLaws::texts))]
 fn fmt(number: u64, first: u32, second: u32, out: &mut [u8]) -> usize
     requires { (10 ≤ number) × (number ≤ 24) × (length out.old ≡ longest_lead + longest_rest) }
     ensures { Added out.old out.new 0 (message_of number first second) result }
 {
-    let at = lead(out, number);
+    let at = buffers::append(out, 0, lead(number));
     rest(number, first, second, out, at)
 }
 
@@ -153,18 +151,19 @@ fn lower_hex(out: &mut [u8], at: usize, n: u32) -> usize
     end + 1
 }
 
-// The letter that stands for a character behind a backslash; 0 where it has none.
+// The letter that stands for a character behind a backslash.
 #[tactic(auto, unfolding(crate::specs::Messages::named))]
-fn escape_letter(c: u32) -> u8
-    ensures { result ≡ letter_byte (letter_of named c) }
+fn escape_letter(c: u32) -> Option<u8>
+    ensures letter { IfSome result (λ l. letter_of named c ≡ some l) }
+    ensures nameless { IfNone result (letter_of named c ≡ none) }
 {
     match c {
-        0x09 => b't',
-        0x0D => b'r',
-        0x0A => b'n',
-        0x5C => b'\\',
-        0x27 => b'\'',
-        _ => 0,
+        0x09 => Some(b't'),
+        0x0D => Some(b'r'),
+        0x0A => Some(b'n'),
+        0x5C => Some(b'\\'),
+        0x27 => Some(b'\''),
+        _ => None,
     }
 }
 
@@ -174,8 +173,7 @@ fn escape_char(out: &mut [u8], at: usize, c: u32) -> usize
     requires { at + 12 ≤ length out.old }
     ensures { Added out.old out.new at (shown c) result }
 {
-    let letter = escape_letter(c);
-    if letter != 0 {
+    if let Some(letter) = escape_letter(c) {
         out[at] = b'\\';
         out[at + 1] = letter;
         return at + 2;
@@ -215,32 +213,28 @@ fn expected(out: &mut [u8], at: usize, wanted: u32, found: u32) -> usize
     quoted(out, open, found)
 }
 
-// Writes the text with which the message of an error begins, by the error's number; returns its length. `all` has these
-// texts one after the other, and `places` says where each begins.
-fn lead(out: &mut [u8], number: u64) -> usize
-    requires { (10 ≤ number) × (number ≤ 24) × (longest_lead ≤ length out.old) }
-    ensures { Added out.old out.new 0 (lead_of number) result × (result ≤ longest_lead) }
+// The text with which the message of an error begins, by the error's number.
+#[tactic(auto, unfolding(crate::specs::Spelled::lead))]
+fn lead(number: u64) -> &'static [u8]
+    requires { (10 ≤ number) × (number ≤ 24) }
+    ensures text { result.now ≡ lead_of number }
+    ensures short { length result.now ≤ longest_lead }
 {
-    let all = b"unterminated block comment\
-          unexpected character '\
-          invalid character in string '\
-          invalid string escape '\
-          invalid hex digit '\
-          expected '\
-          unexpected end-of-file\
-          number is too big to parse\
-          invalid unicode scalar value 0x\
-          bare underscore in numeric literal\
-          likely-confusing unicode character found '\
-          malformed UTF-8 encoding of string-based id\
-          empty identifier\
-          empty annotation id";
-    let places = [
-        0usize, 26, 48, 77, 100, 119, 119, 129, 151, 177, 208, 242, 284, 327, 343, 362,
-    ];
-    let i = (number - 10) as usize;
-    let from = places[i];
-    let n = places[i + 1] - from;
-    buffers::copy(out, 0, all, from, n);
-    n
+    match number {
+        10 => b"unterminated block comment",
+        11 => b"unexpected character '",
+        12 => b"invalid character in string '",
+        13 => b"invalid string escape '",
+        14 => b"invalid hex digit '",
+        16 => b"expected '",
+        17 => b"unexpected end-of-file",
+        18 => b"number is too big to parse",
+        19 => b"invalid unicode scalar value 0x",
+        20 => b"bare underscore in numeric literal",
+        21 => b"likely-confusing unicode character found '",
+        22 => b"malformed UTF-8 encoding of string-based id",
+        23 => b"empty identifier",
+        24 => b"empty annotation id",
+        _ => b"",
+    }
 }

@@ -2,25 +2,28 @@
 // type of row. `replay_rows` describes the rows of the file `answers`.
 #![tactic(auto)]
 
-ghost use Rattle.std.specs.Prelude.{◌≡◌, ◌≢◌, ◌<◌, length, IfOk, IfErr};
+ghost use Rattle.std.specs.Prelude.{◌≢◌, IfErr};
 ghost use Rattle.std.specs.IoError.{error_kind};
 
+mod counts;
+
+use counts::{Counts, RowKind, Verdict};
+use replay_rows::ROW;
 use std::fs::File;
 use std::io;
 use std::io::{ErrorKind, Read};
 use std::process::ExitCode;
 use wat::{Settings, Token};
 
+// What the first byte of a damaged row has more than its type.
+const DAMAGED: u8 = 128;
+
 // The settings of a row.
-fn row_settings(row: &[u8]) -> Settings
-    requires { length row.now ≡ 152 }
-{
-    c_asked::settings_of(replay_rows::wide(row[1]) as u32)
+fn row_settings(row: &[u8; ROW]) -> Settings {
+    c_asked::settings_of(u32::from(row[1]))
 }
 
-fn parse_agrees(row: &[u8], text: &[u8]) -> bool
-    requires { length row.now ≡ 152 }
-{
+fn parse_agrees(row: &[u8; ROW], text: &[u8]) -> bool {
     replay_rows::parsed_agrees(
         row,
         lex_calls::parse(
@@ -31,9 +34,7 @@ fn parse_agrees(row: &[u8], text: &[u8]) -> bool
     )
 }
 
-fn annotation_agrees(row: &[u8], text: &[u8]) -> bool
-    requires { length row.now ≡ 152 }
-{
+fn annotation_agrees(row: &[u8; ROW], text: &[u8]) -> bool {
     replay_rows::found_agrees(
         row,
         lex_calls::annotation(
@@ -44,11 +45,9 @@ fn annotation_agrees(row: &[u8], text: &[u8]) -> bool
     )
 }
 
-fn list_agrees(row: &[u8], text: &[u8]) -> bool
-    requires { length row.now ≡ 152 }
-{
+fn list_agrees(row: &[u8; ROW], text: &[u8]) -> bool {
     let mut list = [238u8; 64];
-    let n = replay_rows::wide(row[3]) as usize;
+    let n = usize::from(row[3]);
     if 64 < n {
         return false;
     }
@@ -63,9 +62,7 @@ fn list_agrees(row: &[u8], text: &[u8]) -> bool
 }
 
 // The token of a row.
-fn row_token(row: &[u8]) -> Token
-    requires { length row.now ≡ 152 }
-{
+fn row_token(row: &[u8; ROW]) -> Token {
     c_asked::token_of([
         replay_rows::number_at(row, 8),
         replay_rows::number_at(row, 4),
@@ -73,28 +70,24 @@ fn row_token(row: &[u8]) -> Token
     ])
 }
 
-fn read_agrees(row: &[u8], text: &[u8]) -> bool
-    requires { length row.now ≡ 152 }
-{
+fn read_agrees(row: &[u8; ROW], text: &[u8]) -> bool {
     let mut buffer = [238u8; 64];
-    let n = replay_rows::wide(row[3]) as usize;
+    let n = usize::from(row[3]);
     if 64 < n {
         return false;
     }
     let answer = c_read_words::reading_words(read_call::read(
         text,
-        replay_rows::wide(row[1]),
+        u64::from(row[1]),
         row_token(row),
         &mut buffer[..n],
     ));
     replay_rows::agrees(row, answer) & replay_rows::bytes_agree(row, &buffer, 64)
 }
 
-fn name_agrees(row: &[u8], text: &[u8]) -> bool
-    requires { length row.now ≡ 152 }
-{
+fn name_agrees(row: &[u8; ROW], text: &[u8]) -> bool {
     let mut buffer = [238u8; 64];
-    let n = replay_rows::wide(row[3]) as usize;
+    let n = usize::from(row[3]);
     if 64 < n {
         return false;
     }
@@ -104,94 +97,60 @@ fn name_agrees(row: &[u8], text: &[u8]) -> bool
         & replay_rows::bytes_agree(row, &buffer, 64)
 }
 
-// The type of a row, doubled, and one more if the answers differ; 1 for another type.
-fn verdict(kind: u8, row: &[u8], text: &[u8]) -> usize
-    requires { length row.now ≡ 152 }
-    ensures { result < 12 }
-{
+// Whether our answer is the row's.
+fn row_agrees(kind: RowKind, row: &[u8; ROW], text: &[u8]) -> bool {
     match kind {
-        1 => {
-            if parse_agrees(row, text) {
-                return 2;
-            }
-            3
-        }
-        2 => {
-            if annotation_agrees(row, text) {
-                return 4;
-            }
-            5
-        }
-        3 => {
-            if list_agrees(row, text) {
-                return 6;
-            }
-            7
-        }
-        4 => {
-            if read_agrees(row, text) {
-                return 8;
-            }
-            9
-        }
-        5 => {
-            if name_agrees(row, text) {
-                return 10;
-            }
-            11
-        }
-        _ => 1,
+        RowKind::Parse => parse_agrees(row, text),
+        RowKind::Annotation => annotation_agrees(row, text),
+        RowKind::List => list_agrees(row, text),
+        RowKind::Read => read_agrees(row, text),
+        RowKind::Name => name_agrees(row, text),
     }
 }
 
-// What a row says: its verdict; of a damaged row 12 if the answers differ, as they must, else 13; 0 for no row.
-fn replayed(row: &[u8]) -> usize
-    ensures { result < 14 }
-{
-    if row.len() != 152 {
-        return 0;
-    }
-    let n = replay_rows::wide(row[2]) as usize;
+// What a row says. The answers to a damaged one must differ.
+fn replayed(row: &[u8; ROW]) -> Verdict {
+    let n = usize::from(row[2]);
     if 40 < n {
-        return 1;
+        return Verdict::Unknown;
     }
-    let end = 48 + n;
-    let text = &row[48..end];
-    let kind = row[0];
-    if kind < 128 {
-        return verdict(kind, row, text);
+    let text = &row[48..48 + n];
+    if row[0] < DAMAGED {
+        return match RowKind::try_from(row[0]) {
+            Ok(kind) => Verdict::Whole {
+                kind,
+                agrees: row_agrees(kind, row, text),
+            },
+            Err(_) => Verdict::Unknown,
+        };
     }
-    let r = verdict(kind - 128, row, text);
-    if (r == 3) | (r == 5) | (r == 7) | (r == 9) | (r == 11) {
-        return 12;
-    }
-    13
+    let noticed = match RowKind::try_from(row[0] - DAMAGED) {
+        Ok(kind) => !row_agrees(kind, row, text),
+        Err(_) => false,
+    };
+    Verdict::Damaged { noticed }
 }
 
-// What the next row says. Less than a row is no row.
-fn next<R: Read>(input: &mut R) -> io::Result<usize>
-    ensures verdict { IfOk result (λ r. r < 14) }
+// What the next row says, if there is one. Less than a row is no row.
+fn next<R: Read>(input: &mut R) -> io::Result<Option<Verdict>>
     ensures end_is_no_error { IfErr result (λ e. error_kind e ≢ ErrorKind.UnexpectedEof) }
 {
-    let mut row = [0u8; 152];
+    let mut row = [0u8; ROW];
     match input.read_exact(&mut row) {
-        Ok(()) => Ok(replayed(&row)),
-        Err(e) if e.kind() == ErrorKind::UnexpectedEof => Ok(0),
+        Ok(()) => Ok(Some(replayed(&row))),
+        Err(e) if e.kind() == ErrorKind::UnexpectedEof => Ok(None),
         Err(e) => Err(e),
     }
 }
 
-// How many rows were of each type and verdict, by `replayed`; a proved loop has to end, so it counts its turns.
-fn replay_all<R: Read>(input: &mut R) -> io::Result<[u64; 14]> {
-    let mut counts = [0u64; 14];
-    let mut turns: u32 = 1_000_000;
-    while 0 < turns {
-        let r = next(input)?;
-        if r == 0 {
+// What the rows say; a proved loop has to end, so it counts its turns.
+fn replay_all<R: Read>(input: &mut R) -> io::Result<Counts> {
+    let mut counts = Counts::new();
+    for _ in 0..1_000_000 {
+        let Some(verdict) = next(input)? else {
             return Ok(counts);
-        }
-        counts[r] = counts[r].wrapping_add(1);
-        turns -= 1;
+        };
+        counts.count(verdict);
     }
     Ok(counts)
 }
@@ -205,6 +164,6 @@ fn main(rt: HostRuntime) -> io::Result<ExitCode> {
         }
     };
     let counts = replay_all(&mut file)?;
-    replay_rows::report(&rt, &counts)?;
+    counts.report(&rt)?;
     Ok(ExitCode::SUCCESS)
 }

@@ -19,71 +19,53 @@
 // the token's length, 0. Of type 5: the same of thallusweb_name, the token's length, its sixth word.
 #![tactic(auto)]
 
-ghost use Rattle.std.specs.Prelude.{◌≡◌, ◌+◌, ◌<◌, ◌≤◌, length};
+ghost use Rattle.std.specs.Prelude.{◌+◌, ◌≤◌};
 
-use messages::Told;
-use std::io;
 use wat::{Found, Listed, Parsed, Refusal};
 
-pub fn wide(x: u8) -> u64
-    ensures { result < 256 }
-{
-    x as u64
-}
+// A row of the file.
+pub const ROW: usize = 152;
 
-pub fn number_at(row: &[u8], at: usize) -> u64
-    requires { at + 4 ≤ length row.now }
+// The number of four bytes that stands at a place of the row.
+pub fn number_at(row: &[u8; ROW], at: usize) -> u64
+    requires { at + 4 ≤ 152 }
 {
-    wide(row[at])
-        + 256 * wide(row[at + 1])
-        + 65_536 * wide(row[at + 2])
-        + 16_777_216 * wide(row[at + 3])
+    u64::from(u32::from_le_bytes([row[at], row[at + 1], row[at + 2], row[at + 3]]))
 }
 
 // The answer's first five numbers.
-pub fn agrees(row: &[u8], answer: [u64; 5]) -> bool
-    requires { length row.now ≡ 152 }
-{
-    (number_at(row, 12) == answer[0])
-        & (number_at(row, 16) == answer[1])
-        & (number_at(row, 20) == answer[2])
-        & (number_at(row, 24) == answer[3])
-        & (number_at(row, 28) == answer[4])
+pub fn agrees(row: &[u8; ROW], answer: [u64; 5]) -> bool {
+    [
+        number_at(row, 12),
+        number_at(row, 16),
+        number_at(row, 20),
+        number_at(row, 24),
+        number_at(row, 28),
+    ] == answer
 }
 
 // The first n bytes of `bytes` are those of the row.
-pub fn bytes_agree(row: &[u8], bytes: &[u8; 64], n: usize) -> bool
-    requires { (length row.now ≡ 152) × (n ≤ 64) }
+pub fn bytes_agree(row: &[u8; ROW], bytes: &[u8; 64], n: usize) -> bool
+    requires { n ≤ 64 }
 {
-    let mut i: usize = 0;
-    while i < n {
-        if bytes[i] != row[88 + i] {
-            return false;
-        }
-        i += 1;
-    }
-    true
+    row[88..88 + n] == bytes[..n]
 }
 
-fn message_agrees(row: &[u8], refusal: Refusal) -> bool
-    requires { length row.now ≡ 152 }
-{
+fn message_agrees(row: &[u8; ROW], refusal: Refusal) -> bool {
     let mut text = [0u8; 64];
     let told = messages::message(refusal, &mut text);
     match told {
-        Told::Refused(_) => row[40] == 0,
-        Told::Written(n) => {
+        Err(_) => row[40] == 0,
+        Ok(n) => {
             if 64 < n {
                 return false;
             }
-            (wide(row[40]) == n as u64) & bytes_agree(row, &text, n)
+            (usize::from(row[40]) == n) & bytes_agree(row, &text, n)
         }
     }
 }
 
-pub fn found_agrees(row: &[u8], found: Found) -> bool
-    requires { length row.now ≡ 152 }
-{
+pub fn found_agrees(row: &[u8; ROW], found: Found) -> bool {
     if !agrees(row, c_words::found_words(found)) {
         return false;
     }
@@ -93,46 +75,14 @@ pub fn found_agrees(row: &[u8], found: Found) -> bool
     }
 }
 
-pub fn parsed_agrees(row: &[u8], parsed: Parsed) -> bool
-    requires { length row.now ≡ 152 }
-{
+pub fn parsed_agrees(row: &[u8; ROW], parsed: Parsed) -> bool {
     let found = parsed.found;
     found_agrees(row, found) & (number_at(row, 32) == parsed.position as u64)
 }
 
-pub fn listed_agrees(row: &[u8], listed: Listed) -> bool
-    requires { length row.now ≡ 152 }
-{
+pub fn listed_agrees(row: &[u8; ROW], listed: Listed) -> bool {
     let stop = listed.stop;
     agrees(row, c_words::stop_words(stop))
         & (number_at(row, 32) == listed.count as u64)
         & (number_at(row, 36) == listed.position as u64)
-}
-
-fn line(rt: &impl Print, name: &str, agree: u64, differ: u64) -> io::Result<()> {
-    let all = agree.wrapping_add(differ);
-    println!(rt; "{name} {agree} of {all}")
-}
-
-// What was counted: of each type of row how many agree, of the damaged rows how many differ, and whether all is as it
-// must be. `c` has the rows that are none at 1, then two for each type and for damaged rows.
-pub fn report(rt: &impl Print, c: &[u64; 14]) -> io::Result<()> {
-    line(rt, "parse", c[2], c[3])?;
-    line(rt, "annotation", c[4], c[5])?;
-    line(rt, "list", c[6], c[7])?;
-    line(rt, "read", c[8], c[9])?;
-    line(rt, "name", c[10], c[11])?;
-    line(rt, "damaged, and noticed", c[12], c[13])?;
-    if (c[1] == 0)
-        & (c[3] == 0)
-        & (c[5] == 0)
-        & (c[7] == 0)
-        & (c[9] == 0)
-        & (c[11] == 0)
-        & (c[13] == 0)
-    {
-        println!(rt; "all agree")
-    } else {
-        println!(rt; "answers differ")
-    }
 }

@@ -6,6 +6,7 @@ use mathlib.Core.Bool.{Bool, true, false}
 use mathlib.Core.List.{List, [], ◌∷◌, ◌++◌}
 use lib.ListN.{length, take, drop, get_or}
 use denote.Ref.{Bor}
+use Rattle.std.specs.Prelude.{Result}
 use Rattle.wat.specs.declared.{TokenKind.TokenKind, Checked.Checked, Found.Found, Parsed.Parsed, Listed.Listed}
 use Rattle.wat.specs.Answers.{Answer}
 use Rattle.wat.specs.declared.{Refusal.Refusal, Token.Token, Settings.Settings}
@@ -18,7 +19,6 @@ use Rattle.wat_values.specs.declared.{Reading.Reading, NameReading.NameReading, 
 use Rattle.wat_values.specs.declared.FloatSign.{FloatSign}
 use Rattle.wat_forms.specs.declared.Folded.{Folded}
 use Rattle.wat_forms.specs.declared.Folded.TheVariants as folded
-use Rattle.messages.specs.declared.Told.{Told}
 use Rattle.place.specs.declared.{Place.Place, Moved.Moved}
 use Rattle.wat.specs.Settings.{lenient}
 use Rattle.wat.specs.Utf8.{WellFormed, Says}
@@ -330,7 +330,7 @@ pub reads_negative_one : {text : List ℕ} {token : Token} {a b : FloatSign}
     → ReadsNegative text token a → ReadsNegative text token b → a ≡ b
 reads_negative_one x y = reading.reads_negative_one x y
 
-pub tells_one : {r : Refusal} {buffer b b' : List ℕ} {a a' : Told} → Tells r buffer a b → Tells r buffer a' b'
+pub tells_one : {r : Refusal} {buffer b b' : List ℕ} {a a' : Result ℕ Refusal} → Tells r buffer a b → Tells r buffer a' b'
     → (a ≡ a') × (b ≡ b')
 tells_one x y = message.tells_one x y
 

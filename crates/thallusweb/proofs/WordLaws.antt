@@ -3,11 +3,11 @@ use Prim.Native.Nat.{ℕ}
 use mathlib.Core.Path.{◌≡◌, sym, subst}
 use mathlib.Core.List.{List}
 use lib.ListN.{get_or}
+use Rattle.std.specs.Prelude.{Result}
 use Rattle.wat.specs.declared.{Checked.Checked, Found.Found, Parsed.Parsed, Listed.Listed, Token.Token, Refusal.Refusal}
 use Rattle.wat_values.specs.declared.{Reading.Reading, NameReading.NameReading, IntegerSign.IntegerSign, IntegerValue.IntegerValue}
 use Rattle.wat_values.specs.declared.{FloatSign.FloatSign}
 use Rattle.wat_forms.specs.declared.Folded.{Folded}
-use Rattle.messages.specs.declared.Told.{Told}
 use Rattle.wat.specs.declared.Settings.{Settings}
 use Rattle.wat.specs.Utf8.{Says}
 use Rattle.wat.specs.Calls.{Parses, Annotates}
@@ -123,6 +123,6 @@ pub ruleset float_signs = (float_sign_named, float_sign_unnamed)
 -- ---- messages
 
 pub told_words :
-    {n a b : ℕ} {buffer v c : List ℕ} (m : Told) → TellsBy n a b buffer m c → v ≡ message_words m
+    {n a b : ℕ} {buffer v c : List ℕ} (m : Result ℕ Refusal) → TellsBy n a b buffer m c → v ≡ message_words m
     → MessageWords n a b buffer v c
 told_words {n} {a} {b} {buffer} {c = c} m t z = subst (λ (x : List ℕ). MessageWords n a b buffer x c) (sym z) (MessageWords.told t)

@@ -1,11 +1,10 @@
 -- The promises of the calls exported to C: their words are those of the answer that the definitions give.
-use Rattle.std.specs.Prelude.{ℕ, List, get_or}
+use Rattle.std.specs.Prelude.{ℕ, List, get_or, Result}
 use Rattle.wat.specs.declared.{Checked.Checked, Token.Token, Refusal.Refusal, Found.Found, Parsed.Parsed, Listed.Listed}
 use Rattle.wat_values.specs.declared.{Reading.Reading, NameReading.NameReading, IntegerSign.IntegerSign}
 use Rattle.wat_values.specs.declared.{FloatSign.FloatSign, IntegerValue.IntegerValue}
 use Rattle.wat_values.specs.declared.NameReading.TheVariants as name
 use Rattle.wat_forms.specs.declared.Folded.{Folded}
-use Rattle.messages.specs.declared.Told.{Told}
 use Rattle.wat.specs.declared.Settings.{Settings}
 use Rattle.wat.specs.Utf8.{Says}
 use Rattle.wat.specs.Calls.{Parses, Annotates}
@@ -72,4 +71,4 @@ pub data FloatSignWords (text w : List ℕ) : List ℕ → Type 0 where
 -- ---- messages; the second call and the place counter have theirs in the specs of `c_spots`
 
 pub data MessageWords (n a b : ℕ) (buffer : List ℕ) : List ℕ → List ℕ → Type 0 where
-  told : {m : Told} {c : List ℕ} → TellsBy n a b buffer m c → MessageWords n a b buffer (message_words m) c
+  told : {m : Result ℕ Refusal} {c : List ℕ} → TellsBy n a b buffer m c → MessageWords n a b buffer (message_words m) c

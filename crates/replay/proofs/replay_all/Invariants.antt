@@ -1,5 +1,0 @@
--- It counts its turns down.
-use Rattle.replay.proofs.replay_all.Given as goal
-
-abbrev pub decreases-loop-turns : goal.decreases-loop-turns
-decreases-loop-turns g l = l.turns
