@@ -7,8 +7,9 @@ use native.Mathlib.Omega.{arith}
 use lib.Dec.{eqb}
 use mir.Val.{bool_byte}
 use lib.ListN.{length, get_or}
-use Rattle.place.specs.declared.{Place.Place, Moved.Moved}
-use Rattle.place.specs.Places.{Moves}
+use Rattle.std.specs.Prelude.{Some, None}
+use Rattle.place.specs.declared.Place.{Place}
+use Rattle.place.specs.Places.{Moved, Moves, answer}
 use Rattle.wat.proofs.Basics.{never}
 use Rattle.place.proofs.OnePlace.{same_place, moves_one}
 use Rattle.place.proofs.PieceLaws.{moves_compose}
@@ -41,19 +42,17 @@ part_words_one (PartWords.none t b) (PartWords.in_buffer f k) = absurd (omega (a
 part_words_one (PartWords.none t b) (PartWords.none u c) = refl
 
 -- the words of a move, and of one that is refused
-pub of_moved : {place bytes : List ℕ} {m : Moved} → Moves (place_of place) bytes m → m.ok ≡ true
-    → MovedWords place bytes true (m.place.line ∷ m.place.column ∷ bool_byte m.place.after_cr ∷ [])
-of_moved (Moves.moves {to = p} s l) e = rw (flag p.after_cr) (MovedWords.moved (Moves.moves s l))
+pub of_moved : {place bytes : List ℕ} {p : Place} → Moves (place_of place) bytes (answer (place_of place) (Some p))
+    → MovedWords place bytes true (p.line ∷ p.column ∷ bool_byte p.after_cr ∷ [])
+of_moved {p = p} m = rw (flag p.after_cr) (MovedWords.moved m)
   where
     flag : (b : Bool) → bool_byte b ≡ elim b [ true ↦ 1 | false ↦ 0 ]
     flag true = refl
     flag false = refl
-of_moved (Moves.full u v k n) e = absurd (never e refl)
 
-pub of_refused : {place bytes : List ℕ} {m : Moved} → Moves (place_of place) bytes m → m.ok ≡ false
+pub of_refused : {place bytes : List ℕ} → Moves (place_of place) bytes (answer (place_of place) None)
     → MovedWords place bytes false place
-of_refused (Moves.moves s l) e = absurd (never refl e)
-of_refused (Moves.full u v k n) e = MovedWords.refused (Moves.full u v k n)
+of_refused m = MovedWords.refused m
 
 pub moved_words_one : {place bytes p q : List ℕ} {a b : Bool} → MovedWords place bytes a p → MovedWords place bytes b q
     → (a ≡ b) × (p ≡ q)

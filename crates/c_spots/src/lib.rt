@@ -37,18 +37,14 @@ pub fn part_of(text: &[u8], buffer: &[u8], answer: [u64; 5]) -> [u64; 3]
 pub fn moved(place: &mut [u32; 3], bytes: &[u8]) -> bool
     ensures { MovedWords place.old bytes.now result place.new }
 {
-    let m = place::move_over(
-        Place {
-            line: place[0],
-            column: place[1],
-            after_cr: place[2] != 0,
-        },
-        bytes,
-    );
-    if !m.ok {
+    let from = Place {
+        line: place[0],
+        column: place[1],
+        after_cr: place[2] != 0,
+    };
+    let Some(p) = place::move_over(from, bytes) else {
         return false;
-    }
-    let p = m.place;
-    *place = [p.line, p.column, p.after_cr as u32];
+    };
+    *place = [p.line, p.column, u32::from(p.after_cr)];
     true
 }

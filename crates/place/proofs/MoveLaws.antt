@@ -3,7 +3,7 @@ use Prim.Native.Nat.{ℕ, suc, ◌+◌, ◌≤◌}
 use mathlib.Core.Path.{◌≡◌, refl, ap}
 use mathlib.Core.Bool.{Bool, true, false, ◌&&◌}
 use mathlib.Core.List.{List, [], ◌∷◌, ◌++◌}
-use mathlib.Core.Option.{Option, none, some}
+use Rattle.std.specs.Prelude.{Option, Some, None}
 use native.Mathlib.Omega.{arith}
 use lib.Dec.{leb}
 use lib.ListN.{length}
@@ -12,39 +12,39 @@ use Rattle.place.specs.declared.Place.{Place}
 use Rattle.wat.specs.Bytes.{Each}
 use Rattle.wat.specs.Chars.{newline}
 use Rattle.wat_lines.specs.LineEnds.{line_ends, ends_in_return}
-use Rattle.place.specs.Places.{Column, Leads, Moves}
+use Rattle.place.specs.Places.{Column, Leads, Moves, answer}
 use Rattle.wat.proofs.Basics.{differ}
-use Rattle.place.specs.PlaceModel.{last, next_column, next_place, kept, step, after, answer, moved}
+use Rattle.place.specs.PlaceModel.{last, next_column, next_place, kept, step, after, moved}
 
 -- a place that a counter holds
 abbrev pub Held : Place → Type 0
 Held p = (p.line ≤ last) × (p.column ≤ last)
 
 pub data Kept (p : Place) : Option Place → Type 0 where
-  is : Held p → Kept p (some p)
-  not : (Held p → ⊥) → Kept p none
+  is : Held p → Kept p (Some p)
+  not : (Held p → ⊥) → Kept p None
 
 pub keeps : (p : Place) → Kept p (kept p)
 unfolding kept
 keeps p = go (leb p.line last) refl (leb p.column last) refl
   where
     go : (l : Bool) → leb p.line last ≡ l → (c : Bool) → leb p.column last ≡ c
-        → Kept p (elim (l && c) [ true ↦ some p | false ↦ none ])
+        → Kept p (elim (l && c) [ true ↦ Some p | false ↦ None ])
     go true e true f = Kept.is (leb-true p.line last e, leb-true p.column last f)
     go true e false f = Kept.not (λ h. omega (arith, h, leb-false p.column last f))
     go false e c f = Kept.not (λ h. omega (arith, h, leb-false p.line last e))
 
-pub kept_is : (p : Place) → Held p → kept p ≡ some p
+pub kept_is : (p : Place) → Held p → kept p ≡ Some p
 kept_is p h = go (keeps p)
   where
-    go : {o : Option Place} → Kept p o → o ≡ some p
+    go : {o : Option Place} → Kept p o → o ≡ Some p
     go (Kept.is h) = refl
     go (Kept.not n) = absurd (n h)
 
-pub kept_not : (p : Place) → (Held p → ⊥) → kept p ≡ none
+pub kept_not : (p : Place) → (Held p → ⊥) → kept p ≡ None
 kept_not p n = go (keeps p)
   where
-    go : {o : Option Place} → Kept p o → o ≡ none
+    go : {o : Option Place} → Kept p o → o ≡ None
     go (Kept.is h) = absurd (n h)
     go (Kept.not m) = refl
 
@@ -89,8 +89,8 @@ record Carries (p : Place) (x : ℕ) (q : Place) : Type 0 where
   parts : (u : List ℕ) (r : Place) → Leads p (x ∷ u) r → Leads q u r
 
 data Steps (p : Place) (x : ℕ) : Option Place → Type 0 where
-  carried : {q : Place} → Carries p x q → Steps p x (some q)
-  full : ((r : Place) → Leads p (x ∷ []) r → ⊥) → Steps p x none
+  carried : {q : Place} → Carries p x q → Steps p x (Some q)
+  full : ((r : Place) → Leads p (x ∷ []) r → ⊥) → Steps p x None
 
 steps : (p : Place) (x : ℕ) → Steps p x (step p x)
 unfolding line_ends ends_in_return
@@ -124,8 +124,8 @@ steps p x = go (keeps (next_place p x))
 
 -- where the bytes lead, and that each start of them leads somewhere; or a start that leads nowhere
 data Reach (p : Place) (w : List ℕ) : Option Place → Type 0 where
-  there : {q : Place} → ((u v : List ℕ) → u ++ v ≡ w → (m : Place) × Leads p u m) → Leads p w q → Reach p w (some q)
-  nowhere : (u v : List ℕ) → u ++ v ≡ w → ((m : Place) → Leads p u m → ⊥) → Reach p w none
+  there : {q : Place} → ((u v : List ℕ) → u ++ v ≡ w → (m : Place) × Leads p u m) → Leads p w q → Reach p w (Some q)
+  nowhere : (u v : List ℕ) → u ++ v ≡ w → ((m : Place) → Leads p u m → ⊥) → Reach p w None
 
 leads_none : (p : Place) → Held p → Leads p [] p
 unfolding line_ends ends_in_return

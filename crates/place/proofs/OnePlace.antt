@@ -3,10 +3,10 @@ use Prim.Native.Nat.{ℕ}
 use mathlib.Core.Path.{◌≡◌, refl, sym, ◌∙◌}
 use mathlib.Core.Bool.{true, false}
 use mathlib.Core.List.{List, [], ◌∷◌, ◌++◌}
-use Rattle.place.specs.declared.{Place.Place, Moved.Moved}
+use Rattle.place.specs.declared.Place.{Place}
 use Rattle.wat.specs.Bytes.{Each}
 use Rattle.wat.specs.Chars.{newline}
-use Rattle.place.specs.Places.{Column, Leads, Moves}
+use Rattle.place.specs.Places.{Column, Leads, Moved, Moves}
 use Rattle.wat.proofs.Basics.{differ, never}
 
 -- no CR and no LF stands among bytes that are none

@@ -1,8 +1,8 @@
 -- A move over some bytes, and from there over others. `proofs/PieceLaws` shows that it is a move over both, wherever
 -- the bytes are cut.
 use Rattle.std.specs.Prelude.{ℕ, true, false, List}
-use Rattle.place.specs.declared.{Place.Place, Moved.Moved}
-use Rattle.place.specs.Places.{Moves}
+use Rattle.place.specs.declared.Place.{Place}
+use Rattle.place.specs.Places.{Moved, Moves}
 
 abbrev pub to : Place → Moved
 to p = record { ok = true; place = p }

@@ -1,8 +1,8 @@
 -- The place after the bytes, by functions that compute. `proofs/MoveLaws` shows that they decide `Moves`.
-use Rattle.std.specs.Prelude.{ℕ, ◌+◌, true, false, ◌&&◌, List, [], ◌∷◌, leb}
-use Rattle.std.proofs.Math.Option.{Option, none, some}
-use Rattle.place.specs.declared.{Place.Place, Moved.Moved}
+use Rattle.std.specs.Prelude.{ℕ, ◌+◌, true, false, ◌&&◌, List, [], ◌∷◌, leb, Option, Some, None}
+use Rattle.place.specs.declared.Place.{Place}
 use Rattle.wat.specs.Chars.{newline}
+use Rattle.place.specs.Places.{Moved, answer}
 use Rattle.wat_lines.specs.LineEnds.{begins, carriage_return}
 
 -- the last number that a counter holds
@@ -22,7 +22,7 @@ next_place p x = record {
 
 -- the place, where a counter holds it
 unfoldable pub kept : Place → Option Place
-kept p = elim (leb p.line last && leb p.column last) [ true ↦ some p | false ↦ none ]
+kept p = elim (leb p.line last && leb p.column last) [ true ↦ Some p | false ↦ None ]
 
 -- after one byte; none where the counter does not hold it
 abbrev pub step : Place → ℕ → Option Place
@@ -30,12 +30,8 @@ step p x = kept (next_place p x)
 
 -- after all of them, one by one
 unfoldable pub after : Place → List ℕ → Option Place
-after p [] = some p
-after p (x ∷ t) = elim (step p x) [ some q ↦ after q t | none ↦ none ]
-
-abbrev pub answer : Place → Option Place → Moved
-answer p (some q) = record { ok = true; place = q }
-answer p none = record { ok = false; place = p }
+after p [] = Some p
+after p (x ∷ t) = elim (step p x) [ Some q ↦ after q t | None ↦ None ]
 
 unfoldable pub moved : Place → List ℕ → Moved
 moved p w = answer p (after p w)

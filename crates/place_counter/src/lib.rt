@@ -21,7 +21,9 @@ pub fn new_place() -> Place
 pub fn move_over(p: &mut Place, w: &[u8]) -> bool
     ensures { Moves p.old w.now (record { ok = result; place = p.new }) }
 {
-    let moved = place::move_over(*p, w);
-    *p = moved.place;
-    moved.ok
+    let Some(to) = place::move_over(*p, w) else {
+        return false;
+    };
+    *p = to;
+    true
 }

@@ -19,7 +19,7 @@ use Rattle.wat_values.specs.declared.{Reading.Reading, NameReading.NameReading, 
 use Rattle.wat_values.specs.declared.FloatSign.{FloatSign}
 use Rattle.wat_forms.specs.declared.Folded.{Folded}
 use Rattle.wat_forms.specs.declared.Folded.TheVariants as folded
-use Rattle.place.specs.declared.{Place.Place, Moved.Moved}
+use Rattle.place.specs.declared.Place.{Place}
 use Rattle.wat.specs.Settings.{lenient}
 use Rattle.wat.specs.Utf8.{WellFormed, Says}
 use Rattle.wat.specs.Strings.{HexNum, Elem}
@@ -38,7 +38,7 @@ use Rattle.read_second.specs.Parts.{PartFor}
 use Rattle.messages.specs.Messages.{Tells}
 use Rattle.wat_lines.specs.LineEnds.{line_ends, ends_in_return}
 use Rattle.wat_lines.specs.Newlines.{Newlines}
-use Rattle.place.specs.Places.{Moves}
+use Rattle.place.specs.Places.{Moved, Moves}
 use Rattle.place.specs.Pieces.{InTwo}
 use Rattle.c_spots.specs.Spots.{MovedWords}
 use Rattle.c_words.specs.Words.{folded_words}

@@ -1,10 +1,6 @@
--- After i bytes the counter is where the model is.
-use Rattle.std.proofs.Common.{length, ◌-◌}
+-- After so many bytes the counter is where the model is.
 use Rattle.place.proofs.WalkLaws.{Walked}
 use Rattle.place.proofs.move_over.Given as goal
 
-abbrev pub invariant-loop-i : goal.invariant-loop-i
-invariant-loop-i l = Walked l.p l.w l.at l.i
-
-abbrev pub decreases-loop-i : goal.decreases-loop-i
-decreases-loop-i l = length l.w - l.i
+abbrev pub invariant-loop-x : goal.invariant-loop-x
+invariant-loop-x l = Walked l.fn.p l.w l.at l.x-index
