@@ -87,9 +87,9 @@ def message_row(line):
     if said == "told":
         message = from_hexadecimal(told[0])
         buffer = message + b"\xee" * (int(room) - len(message))
-        return Row(line, "a message", left, f"(Written {len(message)}, {listed(buffer)})", shown=repr(message))
+        return Row(line, "a message", left, f"(Ok {len(message)}, {listed(buffer)})", shown=repr(message))
     answer, name = {"none": ("34, none", "NoMessage"), "too-short": ("32, too short a buffer", "BufferTooShort")}[said]
-    return Row(line, answer, left, f"(Refused refusal.{name}, replicate {room} 238)")
+    return Row(line, answer, left, f"(Err refusal.{name}, replicate {room} 238)")
 
 
 def place(line, column, last):

@@ -35,9 +35,8 @@ use Rattle.wat.specs.declared.Refusal.TheVariants as refusal
 use Rattle.wat.specs.Cases.{kind_number, error_number, number, list_full}
 """
 MESSAGE_IMPORTS = """\
-use Rattle.std.specs.Prelude.{replicate}
+use Rattle.std.specs.Prelude.{replicate, Ok, Err}
 use Rattle.wat.specs.declared.Refusal.TheVariants as refusal
-use Rattle.messages.specs.declared.Told.TheVariants.{Refused, Written}
 """
 LINE_IMPORTS = "use Rattle.std.specs.Prelude.{Bool}\n"
 RECORD_IMPORTS = "use Rattle.wat.specs.Division.{records}\n"
