@@ -8,13 +8,16 @@ use Rattle.wat.specs.declared.{Token.Token, Refusal.Refusal}
 use Rattle.wat_values.specs.declared.Reading.{Reading}
 use Rattle.wat.specs.declared.Refusal.TheVariants.{NotThatKind}
 use Rattle.wat_values.specs.declared.Reading.TheVariants as reading
+use Rattle.wat_values.specs.declared.FloatPart.{FloatPart}
 use Rattle.wat_values.specs.declared.FloatPart.TheVariants as the
 use Rattle.wat_values.specs.Values.{Reader, Takes, Reads}
 use Rattle.wat_values.specs.Reading.{no_place, Handed, Read}
 use Rattle.read_token.specs.declared.TokenCheck.{TokenCheck}
 use Rattle.read_token.specs.declared.TokenCheck.TheVariants as presence
 use Rattle.read_token.specs.Here.{Here}
-use Rattle.read_call.specs.ByNumber.{readers, nth, ReadBy}
+use Rattle.read_call.specs.declared.Reader.{Reader as Named}
+use Rattle.read_call.specs.declared.Reader.TheVariants as named
+use Rattle.read_call.specs.ByNumber.{readers, nth, reader_of, ReadBy}
 
 -- `src` leaves every buffer
 pub src_any : {text b : List ℕ} {token : Token} {a : Reading} (buffer : List ℕ) → Read Reader.src text token [] a b
@@ -24,32 +27,31 @@ src_any buffer (Read.other_kind t n) = absurd (n Takes.any)
 src_any buffer (Read.reads t Reads.itself (Handed.too_short h)) = absurd (omega arith)
 src_any buffer (Read.reads t Reads.itself (Handed.fits h)) = Read.reads t Reads.itself (Handed.fits (omega arith))
 
-module _ {n : ℕ} {text buffer : List ℕ} {token : Token} {a : Reading} {b : List ℕ} where
-  by_number : {reader : Reader} (m : ℕ) → n ≡ m → nth readers m ≡ some reader → Read reader text token buffer a b
-      → ReadBy n text token buffer a b
-  by_number m e q r = ReadBy.by (ap (nth readers) e ∙ q) r
+-- ---- the number of each
 
-  pub by_string : n ≡ 1 → Read Reader.string text token buffer a b → ReadBy n text token buffer a b
-  by_string e r = by_number 1 e refl r
+numbered : {n : ℕ} {reader : Reader} (m : ℕ) → n ≡ m → nth readers m ≡ some reader → nth readers n ≡ some reader
+numbered m e q = ap (nth readers) e ∙ q
 
-  pub by_digits : n ≡ 4 → Read Reader.digits text token buffer a b → ReadBy n text token buffer a b
-  by_digits e r = by_number 4 e refl r
+pub is_source : {n : ℕ} → n ≡ 0 → nth readers n ≡ some Reader.src
+is_source e = numbered 0 e refl
 
-  pub by_integral : n ≡ 5 → Read (Reader.float the.Integral) text token buffer a b → ReadBy n text token buffer a b
-  by_integral e r = by_number 5 e refl r
+pub is_string : {n : ℕ} → n ≡ 1 → nth readers n ≡ some Reader.string
+is_string e = numbered 1 e refl
 
-  pub by_fraction : n ≡ 6 → Read (Reader.float the.Fraction) text token buffer a b → ReadBy n text token buffer a b
-  by_fraction e r = by_number 6 e refl r
+pub is_digits : {n : ℕ} → n ≡ 4 → nth readers n ≡ some Reader.digits
+is_digits e = numbered 4 e refl
 
-  pub by_exponent : n ≡ 7 → Read (Reader.float the.Exponent) text token buffer a b → ReadBy n text token buffer a b
-  by_exponent e r = by_number 7 e refl r
+pub is_integral : {n : ℕ} → n ≡ 5 → nth readers n ≡ some (Reader.float the.Integral)
+is_integral e = numbered 5 e refl
 
-  pub by_payload : n ≡ 8 → Read (Reader.float the.Payload) text token buffer a b → ReadBy n text token buffer a b
-  by_payload e r = by_number 8 e refl r
+pub is_fraction : {n : ℕ} → n ≡ 6 → nth readers n ≡ some (Reader.float the.Fraction)
+is_fraction e = numbered 6 e refl
 
-pub by_source : {n : ℕ} {text buffer b : List ℕ} {token : Token} {a : Reading} → n ≡ 0 → Read Reader.src text token [] a b
-    → ReadBy n text token buffer a buffer
-by_source {buffer = buffer} e r = by_number 0 e refl (src_any buffer r)
+pub is_exponent : {n : ℕ} → n ≡ 7 → nth readers n ≡ some (Reader.float the.Exponent)
+is_exponent e = numbered 7 e refl
+
+pub is_payload : {n : ℕ} → n ≡ 8 → nth readers n ≡ some (Reader.float the.Payload)
+is_payload e = numbered 8 e refl
 
 -- P, and n is none of the numbers, from m on, that these readers have
 abbrev Apart : List (Option Reader) → ℕ → ℕ → Type 0 → Type 0
@@ -69,26 +71,33 @@ nth_none (none ∷ rs) m n (suc k) P e a = nth_none rs (suc m) n k P (omega arit
 nth_none (some r ∷ rs) m n zero P e a = absurd ((before rs (suc m) n (P × (n ≡ m → ⊥)) a).1 (omega arith))
 nth_none (some r ∷ rs) m n (suc k) P e a = nth_none rs (suc m) n k (P × (n ≡ m → ⊥)) (omega arith) a
 
-nobody : (n : ℕ) → Apart readers 0 n (Unit {0}) → nth readers n ≡ none
+pub nobody : (n : ℕ) → Apart readers 0 n (Unit {0}) → nth readers n ≡ none
 nobody n a = nth_none readers 0 n n (Unit {0}) (omega arith) a
 
-module _
-    {n : ℕ} {text buffer : List ℕ} {token : Token} {m : TokenCheck} (a : Apart readers 0 n (Unit {0}))
-    (h : Here text token m) where
+pub ruleset numbers =
+    (is_source, is_string, is_digits, is_integral, is_fraction, is_exponent, is_payload, nobody)
+
+-- ---- the answer of each
+
+module _ {n : ℕ} {text buffer : List ℕ} {token : Token} {a : Reading} {b : List ℕ} {k : Named}
+    (e : nth readers n ≡ some (reader_of k)) where
+  pub by_source : k ≡ named.Src → Read Reader.src text token [] a b → ReadBy n text token buffer a buffer
+  by_source q r = ReadBy.by (e ∙ ap (λ (k : Named). some (reader_of k)) q) (src_any buffer r)
+
+  pub by_string : k ≡ named.String → Read Reader.string text token buffer a b → ReadBy n text token buffer a b
+  by_string q r = ReadBy.by (e ∙ ap (λ (k : Named). some (reader_of k)) q) r
+
+  pub by_digits : k ≡ named.Digits → Read Reader.digits text token buffer a b → ReadBy n text token buffer a b
+  by_digits q r = ReadBy.by (e ∙ ap (λ (k : Named). some (reader_of k)) q) r
+
+  pub by_float : {p : FloatPart} → k ≡ named.Float p → Read (Reader.float p) text token buffer a b → ReadBy n text token buffer a b
+  by_float q r = ReadBy.by (e ∙ ap (λ (k : Named). some (reader_of k)) q) r
+
+module _ {n : ℕ} {text buffer : List ℕ} {token : Token} {m : TokenCheck} (a : nth readers n ≡ none) (h : Here text token m) where
   pub by_nobody : m ≡ presence.There → ReadBy n text token buffer (reading.Refused NotThatKind no_place) buffer
-  by_nobody e = ReadBy.nobody (nobody n a) (subst (Here text token) e h)
+  by_nobody e = ReadBy.nobody a (subst (Here text token) e h)
 
   pub by_nobody_missing : {r : Refusal} {p : ℕ} → m ≡ presence.Refused r p → ReadBy n text token buffer (reading.Refused r p) buffer
-  by_nobody_missing e = ReadBy.missing (nobody n a) (subst (Here text token) e h)
+  by_nobody_missing e = ReadBy.missing a (subst (Here text token) e h)
 
-pub ruleset readers_by = (
-  by_source,
-  by_string,
-  by_digits,
-  by_integral,
-  by_fraction,
-  by_exponent,
-  by_payload,
-  by_nobody,
-  by_nobody_missing,
-)
+pub ruleset readers_by = (by_source, by_string, by_digits, by_float, by_nobody, by_nobody_missing)

@@ -1,11 +1,13 @@
 -- The readers by their numbers, and what is refused where words name no token.
-use Rattle.std.specs.Prelude.{ℕ, zero, suc, ◌≡◌, List, [], ◌∷◌}
+use Rattle.std.specs.Prelude.{ℕ, zero, suc, ◌≡◌, List, [], ◌∷◌, Result, MatchResult}
 use Rattle.std.proofs.Math.Option.{Option, none, some}
 use Rattle.wat.specs.declared.{Token.Token, Refusal.Refusal}
 use Rattle.wat_values.specs.declared.Reading.{Reading}
 use Rattle.wat.specs.declared.Refusal.TheVariants.{NotThatToken, NotThatKind}
 use Rattle.wat_values.specs.declared.Reading.TheVariants as reading
 use Rattle.wat_values.specs.declared.FloatPart.TheVariants as the
+use Rattle.read_call.specs.declared.{Reader.Reader as Named, NoReader.NoReader}
+use Rattle.read_call.specs.declared.Reader.TheVariants as named
 use Rattle.wat.specs.Calls.{Stands, Rejected}
 use Rattle.wat_values.specs.Values.{Reader}
 use Rattle.wat_values.specs.Reading.{There, no_place, Missing, Read}
@@ -21,6 +23,17 @@ abbrev pub nth : List (Option Reader) → ℕ → Option Reader
 nth [] n = none
 nth (r ∷ rs) zero = r
 nth (r ∷ rs) (suc n) = nth rs n
+
+-- the reader that the code names
+abbrev pub reader_of : Named → Reader
+reader_of named.Src = Reader.src
+reader_of named.String = Reader.string
+reader_of named.Digits = Reader.digits
+reader_of (named.Float part) = Reader.float part
+
+-- the reader that has the number, or none
+abbrev pub Numbered : ℕ → Result Named NoReader → Type 0
+Numbered n r = MatchResult r (λ k. nth readers n ≡ some (reader_of k)) (λ e. nth readers n ≡ none)
 
 -- the first call of the reader with the number; a number that no reader has is refused by 31, after 1 to 4 and 30
 pub data ReadBy (n : ℕ) (text : List ℕ) (token : Token) (buffer : List ℕ) : Reading → List ℕ → Type 0 where

@@ -3,35 +3,65 @@
 
 #![tactic(auto)]
 
-ghost use Rattle.read_call.specs.ByNumber.{ReadBy};
+ghost use Rattle.read_call.specs.ByNumber.{Numbered, ReadBy};
 
 use lex_classes::Table;
 use read_token::TokenCheck;
 use wat::{Refusal, Token};
 use wat_values::{FloatPart, NO_PLACE, Reading};
 
+// The readers that have a number.
+#[derive(Clone, Copy)]
+pub enum Reader {
+    Src,
+    String,
+    Digits,
+    Float(FloatPart),
+}
+
+// A number that no reader has.
+#[derive(Clone, Copy)]
+pub struct NoReader;
+
+impl TryFrom<u64> for Reader {
+    type Error = NoReader;
+
+    ghost try_from_gives = { Numbered };
+
+    #[tactic(auto, using(crate::proofs::NumberedLaws::numbers))]
+    fn try_from(number: u64) -> Result<Self, NoReader> {
+        match number {
+            0 => Ok(Reader::Src),
+            1 => Ok(Reader::String),
+            4 => Ok(Reader::Digits),
+            5 => Ok(Reader::Float(FloatPart::Integral)),
+            6 => Ok(Reader::Float(FloatPart::Fraction)),
+            7 => Ok(Reader::Float(FloatPart::Exponent)),
+            8 => Ok(Reader::Float(FloatPart::Payload)),
+            _ => Err(NoReader),
+        }
+    }
+}
+
 // The first call of the reader that has the number; 31 for a number that no reader has.
 #[tactic(auto, using(crate::proofs::NumberedLaws::readers_by))]
 pub fn read(text: &[u8], reader: u64, token: Token, buffer: &mut [u8]) -> Reading
     ensures { ReadBy reader text.now token buffer.old result buffer.new }
 {
+    let Ok(reader) = Reader::try_from(reader) else {
+        let t = Table::new();
+        return match read_token::present(text, token, &t) {
+            TokenCheck::There => Reading::Refused {
+                refusal: Refusal::NotThatKind,
+                place: NO_PLACE,
+            },
+            TokenCheck::Refused { refusal, place } => Reading::Refused { refusal, place },
+        };
+    };
     match reader {
-        0 => read_text::src(text, token),
-        1 => read_text::string(text, token, buffer),
-        4 => read_integer::integer(text, token, buffer),
-        5 => read_float::part(text, token, FloatPart::Integral, buffer),
-        6 => read_float::part(text, token, FloatPart::Fraction, buffer),
-        7 => read_float::part(text, token, FloatPart::Exponent, buffer),
-        8 => read_float::part(text, token, FloatPart::Payload, buffer),
-        _ => {
-            let t = Table::new();
-            match read_token::present(text, token, &t) {
-                TokenCheck::There => Reading::Refused {
-                    refusal: Refusal::NotThatKind,
-                    place: NO_PLACE,
-                },
-                TokenCheck::Refused { refusal, place } => Reading::Refused { refusal, place },
-            }
-        }
+        Reader::Src => read_text::src(text, token),
+        Reader::String => read_text::string(text, token, buffer),
+        Reader::Digits => read_integer::integer(text, token, buffer),
+        Reader::Float(part) => read_float::part(text, token, part, buffer),
     }
 }
