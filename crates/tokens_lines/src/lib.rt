@@ -38,6 +38,7 @@ fn append_number(out: &mut [u8], to: usize, n: usize, after: u8) -> usize
         × (n < small → result ≤ to + longest_small) }
 {
     let mut figures = [0u8; MOST_FIGURES];
+    // std has no `From<usize>` for u64
     let k = io::decimal(n as u64, &mut figures);
     let end = buffers::append(out, to, &figures[..k]);
     out[end] = after;

@@ -29,6 +29,7 @@ fn render_from(text: &[u8], out: &mut [u8], from: usize) -> usize
     let mut end = from;
     let mut at: usize = 0;
     let mut count: usize = 0;
+    // a `loop`, since each turn goes on behind the token that it found, and three things may be next
     loop {
         match lex_calls::next(text, at, Settings::PLAIN, &t) {
             Ok(Some(Lexeme { kind, len })) => {
