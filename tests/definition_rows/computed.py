@@ -42,7 +42,7 @@ def utf8_row(line):
     text, said, *numbers = line.split()
     text = from_hexadecimal(text)
     if said == "ok":
-        answer, right = "UTF-8", "Ok"
+        answer, right = "UTF-8", "Ok tt"
     else:
         answer, right = f"not UTF-8, error length {numbers[1]}", f"Bad {' '.join(numbers)}"
     return Row(line, answer, f"checked {listed(text)}", right, shown=repr(text))

@@ -29,7 +29,7 @@ use Rattle.wat.specs.declared.Answer.TheVariants as answer
 use Rattle.wat.specs.Settings.{plain, lenient}
 use Rattle.wat.specs.Faults.{fault}
 """
-UTF8_IMPORTS = "use Rattle.wat.specs.declared.Checked.TheVariants.{Ok, Bad}\n"
+UTF8_IMPORTS = "use Rattle.std.specs.Prelude.{Ok}\nuse Rattle.wat.specs.Checked.{Bad}\n"
 NUMBER_IMPORTS = """\
 use Rattle.wat.specs.declared.Refusal.TheVariants as refusal
 use Rattle.wat.specs.Cases.{kind_number, error_number, number, list_full}

@@ -1,7 +1,7 @@
 -- The lexer's answers as words, for C: the layout that include/thallusweb.h explains.
-use Rattle.std.specs.Prelude.{ℕ, List, [], ◌∷◌, ◌++◌, get_or}
-use Rattle.wat.specs.declared.{Checked.Checked, Refusal.Refusal, Found.Found, Parsed.Parsed, Stop.Stop, Listed.Listed}
-use Rattle.wat.specs.declared.Checked.TheVariants.{Ok, Bad}
+use Rattle.std.specs.Prelude.{ℕ, List, [], ◌∷◌, ◌++◌, get_or, Ok, Err}
+use Rattle.wat.specs.declared.{Refusal.Refusal, Found.Found, Parsed.Parsed, Stop.Stop, Listed.Listed}
+use Rattle.wat.specs.Checked.{Checked}
 use Rattle.wat.specs.declared.Found.TheVariants as found
 use Rattle.wat.specs.declared.Stop.TheVariants as stop
 use Rattle.wat.specs.Cases.{kind_number, number, list_full}
@@ -15,8 +15,8 @@ words_version = 6
 
 -- 0, or 2 and its two numbers
 abbrev pub checked_words : Checked → List ℕ
-checked_words Ok = 0 ∷ 0 ∷ 0 ∷ []
-checked_words (Bad n e) = 2 ∷ n ∷ e ∷ []
+checked_words (Ok _) = 0 ∷ 0 ∷ 0 ∷ []
+checked_words (Err e) = 2 ∷ e.valid_up_to ∷ e.error_len ∷ []
 
 -- a refusal: 2, its number, its place and its values, 0 for those that it has not
 abbrev pub refused_words : Refusal → ℕ → List ℕ

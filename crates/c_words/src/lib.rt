@@ -5,7 +5,7 @@ ghost use Rattle.std.specs.Prelude.{◌≡◌};
 ghost use Rattle.c_words.specs.Words.{refused_words, checked_words, found_words};
 ghost use Rattle.c_words.specs.Words.{parsed_words, stop_words, listed_words, folded_words, words_version};
 
-use wat::{Checked, Found, Listed, Parsed, Refusal, Stop};
+use wat::{Found, Listed, Parsed, Refusal, Stop, Utf8Error};
 use wat_forms::Folded;
 
 // The number of the words and constants of include/thallusweb.h, there THALLUSWEB_VERSION. It rises when one changes.
@@ -25,15 +25,12 @@ pub fn refused_words(r: Refusal, place: usize) -> [u64; 5]
     [2, c.number as u64, place as u64, c.first, c.second]
 }
 
-pub fn checked_words(c: Checked) -> [u64; 3]
+pub fn checked_words(c: Result<(), Utf8Error>) -> [u64; 3]
     ensures { result ≡ checked_words c }
 {
     match c {
-        Checked::Ok => [0, 0, 0],
-        Checked::Bad {
-            valid_up_to,
-            error_len,
-        } => [2, valid_up_to as u64, error_len as u64],
+        Ok(()) => [0, 0, 0],
+        Err(e) => [2, e.valid_up_to as u64, e.error_len as u64],
     }
 }
 

@@ -1,6 +1,6 @@
 -- Which texts and positions are refused before lexing, by 1 to 4 (docs/RULES.md, 1).
 use Rattle.std.specs.Prelude.{ℕ, ◌≤◌, ◌<◌, List, length}
-use Rattle.wat.specs.declared.Checked.TheVariants.{Bad}
+use Rattle.wat.specs.Checked.{Bad}
 use Rattle.wat.specs.declared.Refusal.TheVariants.{TooLong, NotUtf8}
 use Rattle.wat.specs.declared.Refused.{Refused}
 use Rattle.wat.specs.Utf8.{Says}

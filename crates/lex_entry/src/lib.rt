@@ -6,7 +6,7 @@ ghost use Rattle.std.specs.Prelude.{OnOk, IfErr};
 ghost use Rattle.wat.specs.Calls.{Text, Stands};
 ghost use Rattle.lex_entry.specs.Checks.{Refuses, RefusesText};
 
-use wat::{Checked, Refusal, Refused, Token};
+use wat::{Refusal, Refused, Token};
 
 // 1 to 4: as `check_text`, and then the position is past the end, or inside a character.
 #[tactic(auto, using(crate::proofs::CheckLaws::placed))]
@@ -43,16 +43,13 @@ pub fn check_text(text: &[u8], pos: usize) -> Result<(), Refused>
         });
     }
     match utf8_check::check(text) {
-        Checked::Ok => Ok(()),
-        Checked::Bad {
-            valid_up_to,
-            error_len,
-        } => Err(Refused {
+        Ok(()) => Ok(()),
+        Err(e) => Err(Refused {
             refusal: Refusal::NotUtf8 {
-                valid_up_to,
-                error_len,
+                valid_up_to: e.valid_up_to,
+                error_len: e.error_len,
             },
-            place: valid_up_to,
+            place: e.valid_up_to,
         }),
     }
 }

@@ -12,8 +12,8 @@ use Rattle.wat.specs.declared.Refusal.TheVariants.{Lexical, BufferTooShort}
 use Rattle.wat_values.specs.declared.{Reading.Reading, NameKind.NameKind, NameReading.NameReading}
 use Rattle.wat_values.specs.declared.Reading.TheVariants as reading
 use Rattle.wat_values.specs.declared.NameReading.TheVariants.{Refused, Text, Buffer}
-use Rattle.wat.specs.declared.Checked.{Checked}
-use Rattle.wat.specs.declared.Checked.TheVariants.{Ok, Bad}
+use Rattle.std.specs.Prelude.{Ok, Err}
+use Rattle.wat.specs.Checked.{Checked, Bad}
 use Rattle.wat.specs.Bytes.{byte, has, Each}
 use Rattle.wat.specs.Settings.{lenient}
 use Rattle.wat.specs.Utf8.{Says}
@@ -97,7 +97,7 @@ names_room {buffer = buffer} {n = n} (Quotes.copied {v = v} p h f) q =
 
 module _ (k : NameKind) {w : List ℕ} (offset : ℕ) {buffer : List ℕ} where
   -- the name v is UTF-8 and not empty; or it is not UTF-8
-  names_right : {r : NameReading} {after : List ℕ} (v : List ℕ) → Str lenient w v → 1 ≤ length v → Says v Ok
+  names_right : {r : NameReading} {after : List ℕ} (v : List ℕ) → Str lenient w v → 1 ≤ length v → Says v (Ok tt)
       → Handed offset (copy_or_part (has (byte "\\") w) 2 v) buffer (reading_of r) after → Whose k r
       → NameHanded k w offset buffer r after
   names_right [] p l u h o = absurd (omega arith)
@@ -146,7 +146,7 @@ module _ (k : NameKind) {w : List ℕ} (offset : ℕ) {buffer : List ℕ} where
 
   -- the check of the buffer's part from 0 to n is that of the name, and a copy is not empty
   pub names_copied : {r : Reading} {after : List ℕ} {start n : ℕ} → Quotes w (offset + 1) buffer r after
-      → r ≡ reading.Buffer start n → Says (take (n - 0) after) Ok
+      → r ≡ reading.Buffer start n → Says (take (n - 0) after) (Ok tt)
       → NameHanded k w offset buffer (Buffer k 0 n) after
   names_copied (Quotes.plain p h) q u = differ (cc)
   names_copied (Quotes.too_short p h f) q u = differ (cc)
@@ -174,8 +174,8 @@ module _ (k : NameKind) {w : List ℕ} (offset : ℕ) {buffer : List ℕ} where
   names_short (Quotes.too_short {v = v} p h f) n m = go (checked v) (checked_says v)
     where
       go : (c : Checked) → Says v c → NameHanded k w offset buffer (Refused BufferTooShort no_place) buffer
-      go Ok u = names_right v p (str_escaped p h) u (handed_short offset buffer v 2 h f) Whose.no_name
-      go (Bad a b) u = names_not v p u (wrong_short offset buffer v h f)
+      go (Ok _) u = names_right v p (str_escaped p h) u (handed_short offset buffer v 2 h f) Whose.no_name
+      go (Err e) u = names_not v p u (wrong_short offset buffer v h f)
   names_short (Quotes.copied p h f) n m = absurd (m _ _ refl)
 
 pub ruleset begun = (name_some, name_empty, name_within, name_word_lem, name_quoted)

@@ -7,7 +7,7 @@ ghost use Rattle.wat_values.specs.Values.{empty_name};
 ghost use Rattle.read_names.specs.Names.{Quoted, Quotes, tail, Sigiled, NameHanded};
 
 use lex_classes::Table;
-use wat::{Checked, LexError, Refusal};
+use wat::{LexError, Refusal};
 use wat_values::{NO_PLACE, NameKind, NameReading, Reading};
 
 // The string of `len` bytes at a place: what stands between its quotes, or a copy if it has an escape. The copy is
@@ -91,18 +91,15 @@ pub fn name(
         Reading::Buffer { start: _, len: n } => {
             let copy = &buffer[0..n];
             match utf8_check::check(copy) {
-                Checked::Ok => NameReading::Buffer {
+                Ok(()) => NameReading::Buffer {
                     kind,
                     start: 0,
                     len: n,
                 },
-                Checked::Bad {
-                    valid_up_to,
-                    error_len,
-                } => NameReading::Refused {
+                Err(e) => NameReading::Refused {
                     refusal: Refusal::Lexical(LexError::InvalidUtf8Id {
-                        valid_up_to,
-                        error_len,
+                        valid_up_to: e.valid_up_to,
+                        error_len: e.error_len,
                     }),
                     place: offset,
                 },

@@ -7,8 +7,9 @@ use mathlib.Core.List.{List, [], ◌∷◌, ◌++◌}
 use lib.ListN.{length, take, drop, get_or}
 use denote.Ref.{Bor}
 use Rattle.std.specs.Prelude.{Result}
-use Rattle.wat.specs.declared.{TokenKind.TokenKind, Checked.Checked, Found.Found, Parsed.Parsed, Listed.Listed}
+use Rattle.wat.specs.declared.{TokenKind.TokenKind, Found.Found, Parsed.Parsed, Listed.Listed}
 use Rattle.wat.specs.Answers.{Answer}
+use Rattle.wat.specs.Checked.{Checked}
 use Rattle.wat.specs.declared.{Refusal.Refusal, Token.Token, Settings.Settings}
 use Rattle.wat.specs.declared.{Fault.Fault, LexError.TheVariants.UnexpectedEof, LexError.TheVariants.DoubleUnderscore}
 use Rattle.wat.specs.declared.Refusal.TheVariants.{Lexical}

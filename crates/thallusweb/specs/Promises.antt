@@ -1,6 +1,7 @@
 -- The promises of the calls exported to C: their words are those of the answer that the definitions give.
 use Rattle.std.specs.Prelude.{ℕ, List, get_or, Result}
-use Rattle.wat.specs.declared.{Checked.Checked, Token.Token, Refusal.Refusal, Found.Found, Parsed.Parsed, Listed.Listed}
+use Rattle.wat.specs.declared.{Token.Token, Refusal.Refusal, Found.Found, Parsed.Parsed, Listed.Listed}
+use Rattle.wat.specs.Checked.{Checked}
 use Rattle.wat_values.specs.declared.{Reading.Reading, NameReading.NameReading, IntegerSign.IntegerSign}
 use Rattle.wat_values.specs.declared.{FloatSign.FloatSign, IntegerValue.IntegerValue}
 use Rattle.wat_values.specs.declared.NameReading.TheVariants as name

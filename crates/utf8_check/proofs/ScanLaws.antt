@@ -1,11 +1,10 @@
 -- Laws for the code that checks a text from a place on. Assumes nothing.
 use Rattle.std.proofs.Common.{◌≡◌, ℕ, suc, pred, ◌+◌, ◌<◌, ◌≤◌, List, [], ◌∷◌, length, get_or, drop, ap, ◌∙◌, arith}
-use Rattle.std.proofs.Common.{drop_of_length-le, drop-cons, drop-drop}
+use Rattle.std.proofs.Common.{drop_of_length-le, drop-cons, drop-drop, Ok}
 use Rattle.wat.specs.Utf8.{Says}
 use Rattle.wat.specs.declared.Front.TheVariants.{Whole, Wrong, Cut}
 use Rattle.wat.specs.Utf8Model.{front, verdict, scan, checked}
-use Rattle.wat.specs.declared.Checked.{Checked}
-use Rattle.wat.specs.declared.Checked.TheVariants.{Ok, Bad}
+use Rattle.wat.specs.Checked.{Checked, Bad}
 use Rattle.wat.proofs.Utf8Laws.{char_front, scan_skip, checked_says}
 use Rattle.wat.proofs.Scalars.{ascii}
 use Rattle.utf8_chars.proofs.DecodeLaws.{front_char}
@@ -31,7 +30,7 @@ module _ (s : List ℕ) (i : ℕ) (h : i < length s) where
   pub scan_cut : front (drop i s) ≡ Cut → scan i 0 (drop i s) ≡ Bad i 0
   scan_cut e = scan_here s i h ∙ rw e
 
-pub scan_end : (s : List ℕ) (i : ℕ) → length s ≤ i → scan i 0 (drop i s) ≡ Ok
+pub scan_end : (s : List ℕ) (i : ℕ) → length s ≤ i → scan i 0 (drop i s) ≡ Ok tt
 unfolding scan
 scan_end s i h = rw (drop_of_length-le s h)
 

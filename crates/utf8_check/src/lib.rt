@@ -5,13 +5,13 @@
 
 ghost use Rattle.wat.specs.Utf8.{Says};
 
-use wat::{Checked, Front};
+use wat::{Front, Utf8Error};
 
 mod blocks;
 
 // Whether a text is well formed, or where it goes wrong, as `std::str::from_utf8` says. What the blocks leave is
 // checked by characters.
-pub fn check(s: &[u8]) -> Checked
+pub fn check(s: &[u8]) -> Result<(), Utf8Error>
     ensures { Says s.now result }
 {
     let mut i = blocks::pass(s);
@@ -24,19 +24,19 @@ pub fn check(s: &[u8]) -> Checked
                     i += n;
                 }
                 Front::Wrong(k) => {
-                    return Checked::Bad {
+                    return Err(Utf8Error {
                         valid_up_to: i,
                         error_len: k,
-                    };
+                    });
                 }
                 Front::Cut => {
-                    return Checked::Bad {
+                    return Err(Utf8Error {
                         valid_up_to: i,
                         error_len: 0,
-                    };
+                    });
                 }
             }
         }
     }
-    Checked::Ok
+    Ok(())
 }

@@ -8,8 +8,9 @@ use native.Mathlib.Omega.{arith}
 use lib.Dec.{ltb}
 use lib.ListN.{length, take, drop, length-drop, take-append-drop}
 use borrow.Author.Tests.{ltb-true, ltb-false}
-use Rattle.wat.specs.declared.Checked.{Checked}
-use Rattle.wat.specs.declared.Checked.TheVariants.{Ok, Bad}
+use Rattle.std.specs.Prelude.{Ok, Err}
+use Rattle.wat.specs.declared.Utf8Error.{Utf8Error}
+use Rattle.wat.specs.Checked.{Checked, Bad}
 use Rattle.wat.specs.declared.Refusal.{Refusal}
 use Rattle.wat.specs.declared.Parsed.{Parsed}
 use Rattle.wat.specs.declared.Found.{Found}
@@ -30,10 +31,13 @@ use Rattle.wat_laws.proofs.Total.{lexed}
 -- ---- refusals 1 to 4
 
 pub not_both : {text : List ℕ} {n e : ℕ} → Says text (Bad n e) → WellFormed text → ⊥
-not_both {text} {n} {e} s g = let z = says_one text Ok (Bad n e) g s in differ (cc)
+not_both {text} {n} {e} s g = let z = says_one text (Ok tt) (Bad n e) g s in differ (cc)
 
 pub bad_one : {text : List ℕ} {n e n' e' : ℕ} → Says text (Bad n e) → Says text (Bad n' e') → (n ≡ n') × (e ≡ e')
-bad_one {text} {n} {e} {n'} {e'} s s' = let z = says_one text (Bad n e) (Bad n' e') s s' in (cc, cc)
+bad_one {text} {n} {e} {n'} {e'} s s' =
+    let z = says_one text (Bad n e) (Bad n' e') s s' in
+    let d : ◌≡◌ {A = Utf8Error} (record { valid_up_to = n; error_len = e }) (record { valid_up_to = n'; error_len = e' }) = cc in
+    (ap (λ (x : Utf8Error). x.valid_up_to) d, ap (λ (x : Utf8Error). x.error_len) d)
 
 pub rejected_one : {text : List ℕ} {pos p p' : ℕ} {r r' : Refusal} → Rejected text pos r p → Rejected text pos r' p'
     → (r ≡ r') × (p ≡ p')
@@ -68,16 +72,16 @@ pub entering : (text : List ℕ) (pos : ℕ) → Entering text pos
 entering text pos = long (ltb most (length text)) refl
   where
     between : (t : Text text) → pos ≤ length text → (r : Checked) → Says (drop pos text) r → Entering text pos
-    between t h Ok s = inr (record { sound = t; within = h; between = s })
-    between t h (Bad n e) s = inl (_, _, Rejected.inside t h (λ w. not_both s w))
+    between t h (Ok _) s = inr (record { sound = t; within = h; between = s })
+    between t h (Err e) s = inl (_, _, Rejected.inside t h (λ w. not_both s w))
 
     past : (t : Text text) (b : Bool) → ltb (length text) pos ≡ b → Entering text pos
     past t true h = inl (_, _, Rejected.past_end t (ltb-true (length text) pos h))
     past t false h = between t (ltb-false (length text) pos h) (checked (drop pos text)) (checked_says (drop pos text))
 
     formed : length text ≤ most → (r : Checked) → Says text r → Entering text pos
-    formed h Ok s = past (record { short = h; formed = s }) (ltb (length text) pos) refl
-    formed h (Bad n e) s = inl (_, _, Rejected.not_utf8 h s)
+    formed h (Ok _) s = past (record { short = h; formed = s }) (ltb (length text) pos) refl
+    formed h (Err e) s = inl (_, _, Rejected.not_utf8 h s)
 
     long : (b : Bool) → ltb most (length text) ≡ b → Entering text pos
     long true h = inl (_, _, Rejected.too_long (ltb-true most (length text) h))

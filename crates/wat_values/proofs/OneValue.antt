@@ -8,7 +8,8 @@ use lib.ListN.{length, take, length-append}
 use lib.Seq.{take-append_seam}
 use Rattle.wat.specs.declared.Sign.{Sign}
 use Rattle.wat.specs.declared.TokenKind.{TokenKind}
-use Rattle.wat.specs.declared.Checked.TheVariants.{Ok, Bad}
+use Rattle.std.specs.Prelude.{Ok}
+use Rattle.wat.specs.Checked.{Bad}
 use Rattle.wat.specs.Bytes.{has, Each}
 use Rattle.wat.specs.Settings.{lenient}
 use Rattle.wat.specs.Utf8.{WellFormed}
@@ -22,6 +23,7 @@ use Rattle.wat.proofs.Numbers.Digits.{passes}
 use Rattle.wat.proofs.Numbers.Parts.{Plain, plain, sign_passed, after_passed, digits_plain, fraction_stops, fraction_passed}
 use Rattle.wat.proofs.Numbers.Decides.{body_plain}
 use Rattle.wat.proofs.Utf8Laws.{says_one}
+use Rattle.wat_laws.proofs.OneCall.{bad_one}
 use Rattle.wat.proofs.Basics.{never, differ, cut_off}
 use Rattle.wat.proofs.StringRests.{str_one}
 use Rattle.wat.proofs.Runs.{quote_no_idchar}
@@ -51,21 +53,21 @@ names_one (Name.quoted p s) Name.nothing q = absurd (no_empty p q)
 names_one (Name.quoted p s) (Name.quoted p' s') q = let e = value_of p p' q in cc
 names_one (Name.quoted p s) (Name.quoted_nothing p') q = let e = value_of p p' q in differ (cc)
 names_one (Name.quoted {v = v} {x = x} p s) (Name.quoted_wrong {n = n} {l = l} p' s') q =
-    let e = value_of p p' q in let z = says_one (x ∷ v) Ok (Bad n l) s (rw (sym e) at s') in differ (cc)
+    let e = value_of p p' q in let z = says_one (x ∷ v) (Ok tt) (Bad n l) s (rw (sym e) at s') in differ (cc)
 names_one (Name.quoted_nothing p) (Name.word b) q = absurd (no_word b p q)
 names_one (Name.quoted_nothing p) Name.nothing q = absurd (no_empty p q)
 names_one (Name.quoted_nothing p) (Name.quoted p' s') q = let e = value_of p p' q in differ (cc)
 names_one (Name.quoted_nothing p) (Name.quoted_nothing p') q = refl
 names_one (Name.quoted_nothing p) (Name.quoted_wrong {n = n} {l = l} p' s') q =
-    let e = value_of p p' q in let z = says_one [] Ok (Bad n l) WellFormed.empty (rw (sym e) at s') in differ (cc)
+    let e = value_of p p' q in let z = says_one [] (Ok tt) (Bad n l) WellFormed.empty (rw (sym e) at s') in differ (cc)
 names_one (Name.quoted_wrong p s) (Name.word b) q = absurd (no_word b p q)
 names_one (Name.quoted_wrong p s) Name.nothing q = absurd (no_empty p q)
 names_one (Name.quoted_wrong {n = n} {l = l} p s) (Name.quoted {v = v} {x = x} p' s') q =
-    let e = value_of p p' q in let z = says_one (x ∷ v) Ok (Bad n l) s' (rw e at s) in differ (cc)
+    let e = value_of p p' q in let z = says_one (x ∷ v) (Ok tt) (Bad n l) s' (rw e at s) in differ (cc)
 names_one (Name.quoted_wrong {n = n} {l = l} p s) (Name.quoted_nothing p') q =
-    let e = value_of p p' q in let z = says_one [] Ok (Bad n l) WellFormed.empty (rw e at s) in differ (cc)
+    let e = value_of p p' q in let z = says_one [] (Ok tt) (Bad n l) WellFormed.empty (rw e at s) in differ (cc)
 names_one (Name.quoted_wrong {v = v} {n = n} {l = l} p s) (Name.quoted_wrong {n = n'} {l = l'} p' s') q =
-    let e = value_of p p' q in let z = says_one v (Bad n l) (Bad n' l') s (rw (sym e) at s') in cc
+    let e = value_of p p' q in let z = bad_one s (rw (sym e) at s') in cc
 
 pub name_one : {n : NameKind} {w : List ℕ} {r r' : Value} → Name n w r → Name n w r' → r ≡ r'
 name_one a b = names_one a b refl

@@ -15,7 +15,7 @@ use Rattle.wat.specs.declared.LexError.TheVariants.{DanglingBlockComment, Invali
 use Rattle.wat.specs.declared.LexError.TheVariants.{LoneUnderscore, EmptyId, DoubleUnderscore}
 use Rattle.wat.specs.declared.Settings.{Settings}
 use Rattle.wat.specs.Answers.{Answer, End, Token, Fault}
-use Rattle.wat.specs.declared.Checked.TheVariants.{Ok}
+use Rattle.std.specs.Prelude.{Ok}
 use Rattle.wat.specs.Bytes.{bytes, between, has}
 use Rattle.wat.specs.Settings.{plain}
 use Rattle.wat.specs.Numbers.{digit, marks, Digits, Signed, Fraction, Exponent}
@@ -132,7 +132,7 @@ unfolding rows classify run strip after_dot fraction sign_of after_sign exponent
     hidden comment lex
 rows_right = refl
 
-rows_formed : map (λ (r : Row). checked r.text) rows ≡ map (λ (r : Row). Ok) rows
+rows_formed : map (λ (r : Row). checked r.text) rows ≡ map (λ (r : Row). Ok tt) rows
 unfolding rows table front scan checked
 rows_formed = refl
 
@@ -178,12 +178,12 @@ rows_read = (
 
 -- each row holds
 by_model : (rs : List Row) → map (λ (r : Row). lex r.settings r.text) rs ≡ map (λ (r : Row). r.answer) rs
-    → map (λ (r : Row). checked r.text) rs ≡ map (λ (r : Row). Ok) rs
+    → map (λ (r : Row). checked r.text) rs ≡ map (λ (r : Row). Ok tt) rs
     → All LeavesOf rs → All Holds rs
 by_model [] e f m = tt
 by_model (r ∷ rs) e f m =
     let h : lex r.settings r.text ≡ r.answer = cc in
-    let g : checked r.text ≡ Ok = cc in
+    let g : checked r.text ≡ Ok tt = cc in
     let w : WellFormed r.text = subst (Says r.text) g (checked_says r.text) in
     ((rw h at (lexed r.settings w), m.0), by_model rs (cc) (cc) m.1)
 

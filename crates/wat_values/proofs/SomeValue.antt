@@ -11,8 +11,8 @@ use Rattle.wat.specs.declared.FloatKind.TheVariants as float_kind
 use Rattle.wat.specs.declared.TokenKind.{TokenKind}
 use Rattle.wat.specs.declared.TokenKind.TheVariants as kind
 use Rattle.wat.specs.declared.Number.{Number}
-use Rattle.wat.specs.declared.Checked.{Checked}
-use Rattle.wat.specs.declared.Checked.TheVariants.{Ok, Bad}
+use Rattle.std.specs.Prelude.{Ok, Err}
+use Rattle.wat.specs.Checked.{Checked}
 use Rattle.wat.specs.Bytes.{byte, has, Each}
 use Rattle.wat.specs.Settings.{lenient}
 use Rattle.wat.specs.Utf8.{Says}
@@ -122,8 +122,8 @@ name_of n w (inr q) = go q.0 q.1 (checked q.0) (checked_says q.0)
   where
     go : (v : List ℕ) → Str lenient w v → (c : Checked) → Says v c → (r : Value) × Name n w r
     go [] s c h = (_, Name.quoted_nothing s)
-    go (x ∷ v) s Ok h = (_, Name.quoted s h)
-    go (x ∷ v) s (Bad m l) h = (_, Name.quoted_wrong s h)
+    go (x ∷ v) s (Ok _) h = (_, Name.quoted s h)
+    go (x ∷ v) s (Err e) h = (_, Name.quoted_wrong s h)
 
 fraction_value : {c h : Bool} {sign : Sign} {w u p f e : List ℕ} → Fraction h f → Split h w sign u p f e
     → (v : Value) × Reads (Reader.float the.Fraction) (kind.Float (float_kind.Normal c h)) w v

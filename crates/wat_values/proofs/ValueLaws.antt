@@ -11,7 +11,7 @@ use Rattle.wat.specs.declared.Sign.{Sign}
 use Rattle.wat.specs.declared.TokenKind.{TokenKind}
 use Rattle.wat.specs.declared.LexError.{LexError}
 use Rattle.wat.specs.declared.LexError.TheVariants.{InvalidUtf8Id}
-use Rattle.wat.specs.declared.Checked.TheVariants.{Bad}
+use Rattle.wat.specs.Checked.{Bad}
 use Rattle.wat.specs.Bytes.{has, Each}
 use Rattle.wat.specs.Settings.{lenient}
 use Rattle.wat.specs.Utf8.{WellFormed, Says}

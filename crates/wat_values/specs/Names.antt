@@ -1,6 +1,7 @@
 -- Which names the reader of Id and Annotation tokens refuses, by 22 to 24 (docs/RULES.md, 11).
 use Rattle.std.specs.Prelude.{ℕ, true, List, [], ◌∷◌}
-use Rattle.wat.specs.declared.{TokenKind.TokenKind, LexError.LexError, Checked.TheVariants.Bad}
+use Rattle.wat.specs.declared.{TokenKind.TokenKind, LexError.LexError}
+use Rattle.wat.specs.Checked.{Bad}
 use Rattle.wat.specs.declared.LexError.TheVariants.{InvalidUtf8Id}
 use Rattle.wat_values.specs.declared.NameKind.{NameKind}
 use Rattle.wat.specs.{Bytes.Each, Settings.lenient, Utf8.Says, Chars.idchar, Strings.Str}

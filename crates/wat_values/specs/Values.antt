@@ -1,5 +1,5 @@
 -- What each reader leaves of a token's bytes (docs/RULES.md, 11).
-use Rattle.std.specs.Prelude.{ℕ, ◌+◌, ◌≡◌, Bool, true, false, ◌||◌, List, [], ◌∷◌, ◌++◌, length, eqb}
+use Rattle.std.specs.Prelude.{ℕ, ◌+◌, ◌≡◌, Bool, true, false, ◌||◌, List, [], ◌∷◌, ◌++◌, length, eqb, Ok}
 use Rattle.wat.specs.declared.{Sign.Sign, IntegerKind.IntegerKind, FloatKind.FloatKind}
 use Rattle.wat.specs.declared.{TokenKind.TokenKind, LexError.LexError}
 use Rattle.wat_values.specs.declared.{NameKind.NameKind, FloatPart.FloatPart}
@@ -9,7 +9,7 @@ use Rattle.wat.specs.declared.Sign.TheVariants.{Unsigned, Plus, Minus}
 use Rattle.wat.specs.declared.FloatKind.TheVariants.{Inf, Nan, NanVal, Normal}
 use Rattle.wat.specs.declared.TokenKind.TheVariants as kind
 use Rattle.wat.specs.declared.LexError.TheVariants.{InvalidUtf8Id, EmptyId, EmptyAnnotation}
-use Rattle.wat.specs.declared.Checked.TheVariants.{Ok, Bad}
+use Rattle.wat.specs.Checked.{Bad}
 use Rattle.wat.specs.{Bytes.bytes, Bytes.byte, Bytes.has, Bytes.Each}
 use Rattle.wat.specs.{Settings.lenient, Utf8.Says, Chars.idchar, Strings.Str}
 use Rattle.wat.specs.Numbers.{prefix, nan_colon, Digits, Signed, Fraction, Exponent}
@@ -75,7 +75,7 @@ kept Minus = bytes "-"
 pub data Name (whose : NameKind) : List ℕ → Value → Type 0 where
   word : {x : ℕ} {w : List ℕ} → Each idchar true (x ∷ w) → Name whose (x ∷ w) (part 1 (x ∷ w))
   nothing : Name whose [] (refused [] (empty_name whose))
-  quoted : {w v : List ℕ} {x : ℕ} → Str lenient w (x ∷ v) → Says (x ∷ v) Ok
+  quoted : {w v : List ℕ} {x : ℕ} → Str lenient w (x ∷ v) → Says (x ∷ v) (Ok tt)
       → Name whose w (copy_or_part (has (byte "\\") w) 2 (x ∷ v))
   quoted_nothing : {w : List ℕ} → Str lenient w [] → Name whose w (refused [] (empty_name whose))
   quoted_wrong : {w v : List ℕ} {n l : ℕ} → Str lenient w v → Says v (Bad n l)
