@@ -1,16 +1,15 @@
 -- From the parts of a literal, and the places where they end, to its kind.
 -- Assumes nothing.
-use Prim.Native.Nat.{ℕ, ◌+◌, ◌≤◌}
-use native.Mathlib.Nat.{add-zero}
+use Prim.Native.Nat.{ℕ, ◌≤◌, ◌<◌}
 use native.Mathlib.Omega.{arith}
-use mathlib.Core.Path.{◌≡◌, refl, sym, ap, ◌∙◌, subst}
+use mathlib.Core.Path.{◌≡◌, refl, sym, ap, ◌∙◌}
 use mathlib.Core.Logic.{◌⊎◌, inl, inr}
-use mathlib.Core.Bool.{Bool, true, false, not, ◌||◌}
+use mathlib.Core.Bool.{Bool, true, false, not, ◌&&◌, ◌||◌, and-false, and-true}
 use mathlib.Core.List.{List, [], ◌∷◌}
 use mathlib.Core.Option.{none, some}
+use lib.Pointwise.{pointwise}
 use lib.Dec.{eqb}
-use lib.ListN.{length}
-use lib.Seq.{slice}
+use lib.ListN.{length, get_or, take, drop}
 use Rattle.wat.specs.declared.Sign.{Sign}
 use Rattle.wat.specs.declared.Number.{Number}
 use Rattle.wat.specs.declared.Number.TheVariants.{Integer, Inf, Nan, NanVal, Normal, Neither}
@@ -20,23 +19,7 @@ use Rattle.wat.specs.NumberModel.{Past, bad, past, run, strip, is, nothing_left}
 use Rattle.wat.specs.NumberModel.{fraction, exponent, at_end, then, decide, finite, payload, unsigned, classify}
 use Rattle.wat.proofs.Numbers.Digits.{apart}
 use Rattle.wat.proofs.Numbers.Decides.{complete, sound}
-use Rattle.lex_numbers.specs.declared.Skip.{Skip}
-use Rattle.lex_numbers.specs.declared.Skip.TheVariants.{Bad, To}
-use Rattle.lex_numbers.proofs.SliceLaws.{at_byte, at_end_empty}
-use Rattle.lex_numbers.proofs.WordLaws.{begins, begins_not, begins_within}
-use Rattle.lex_numbers.specs.Places.{left_at, Within, Skipped, stripped, When}
-
--- ---- what a place says of the model
-
-module _ {text : List ℕ} {end : ℕ} {m : Past} {r : Skip} (s : Skipped text end m r) where
-  pub found_bad : r ≡ Bad → m ≡ bad
-  found_bad e = s.same ∙ ap (left_at text end) e
-
-  pub found : {u : Bool} {i : ℕ} → r ≡ To u i → m ≡ past u (slice i end text)
-  found e = s.same ∙ ap (left_at text end) e
-
-  pub found_within : {u : Bool} {i : ℕ} → r ≡ To u i → i ≤ end
-  found_within e = subst (Within end) e s.within
+use Rattle.lex_numbers.specs.Places.{begins_0x}
 
 -- ---- a payload's digits, with nothing after them
 
@@ -94,27 +77,86 @@ module _ (sign : Sign) (hex : Bool) where
     unfolding decide
     decide_float z = rw (e, z)
 
-pub prefix_within : {at end : ℕ} (hex : Bool) → When hex (at + 2 ≤ end) → at ≤ end → at + length (prefix hex) ≤ end
-prefix_within true w h = w
-prefix_within false w h = omega arith
+-- ---- a word that begins with another, or is it, in std's words
 
-pub finite_told :
-    (sign : Sign) (text : List ℕ) (at end : ℕ) (hex : Bool)
-    → strip (prefix true) (slice at end text) ≡ stripped text (at + 2) end hex
-    → decide sign hex (run hex true (slice (at + length (prefix hex)) end text)) ≡ finite sign (slice at end text)
+other_first : (p : ℕ) (ps : List ℕ) (x : ℕ) (xs : List ℕ) → eqb x p ≡ false → strip (p ∷ ps) (x ∷ xs) ≡ none
+unfolding strip
+other_first p ps x xs e = rw (e, strip)
+
+same_first : (p : ℕ) (ps : List ℕ) (x : ℕ) (xs : List ℕ) → eqb x p ≡ true → strip (p ∷ ps) (x ∷ xs) ≡ strip ps xs
+unfolding strip
+same_first p ps x xs e = rw (e, strip)
+
+pub strip_some : (p s : List ℕ) {t : List ℕ} → pointwise eqb (take (length p) s) p ≡ true → t ≡ drop (length p) s
+    → strip p s ≡ some t
+unfolding strip
+strip_some [] s h q = ap some (sym q)
+strip_some (a ∷ p) [] h q = absurd cc
+strip_some (a ∷ p) (x ∷ s) {t} h q = go (eqb x a) refl h (λ g. strip_some p s g q)
+  where
+    go : (b : Bool) → eqb x a ≡ b → b && pointwise eqb (take (length p) s) p ≡ true
+        → (pointwise eqb (take (length p) s) p ≡ true → strip p s ≡ some t) → strip (a ∷ p) (x ∷ s) ≡ some t
+    go true e g k = same_first a p x s e ∙ k g
+    go false e g k = absurd cc
+
+pub strip_none : (p s : List ℕ) → pointwise eqb (take (length p) s) p ≡ false → strip p s ≡ none
+unfolding strip
+strip_none [] s h = absurd cc
+strip_none (a ∷ p) [] h = refl
+strip_none (a ∷ p) (x ∷ s) h = go (eqb x a) refl h (λ g. strip_none p s g)
+  where
+    go : (b : Bool) → eqb x a ≡ b → b && pointwise eqb (take (length p) s) p ≡ false
+        → (pointwise eqb (take (length p) s) p ≡ false → strip p s ≡ none) → strip (a ∷ p) (x ∷ s) ≡ none
+    go true e g k = same_first a p x s e ∙ k g
+    go false e g k = other_first a p x s e
+
+pub is_word : (p s : List ℕ) → pointwise eqb s p ≡ is p s
+unfolding is nothing_left strip
+is_word [] [] = refl
+is_word [] (x ∷ s) = refl
+is_word (a ∷ p) [] = refl
+is_word (a ∷ p) (x ∷ s) = go (eqb x a) refl (is_word p s)
+  where
+    go : (b : Bool) → eqb x a ≡ b → pointwise eqb s p ≡ is p s → b && pointwise eqb s p ≡ is (a ∷ p) (x ∷ s)
+    go true e k = rw (same_first a p x s e) k
+    go false e k = rw (other_first a p x s e)
+
+-- what `==` says of a word
+pub told : (p s : List ℕ) {q : List ℕ} {r b : Bool} → q ≡ p → r ≡ pointwise eqb s q → r ≡ b → is p s ≡ b
+told p s e h k = sym (is_word p s) ∙ (ap (pointwise eqb s) (sym e) ∙ (sym h ∙ k))
+
+-- ---- a number, by whether 0x is first
+
+pub prefix_short : (s : List ℕ) → length s < 2 → false ≡ begins_0x s
+prefix_short [] h = refl
+prefix_short (x ∷ []) h = rw and-false
+prefix_short (x ∷ y ∷ s) h = absurd (omega arith)
+
+pub prefix_long : (s : List ℕ) → 2 ≤ length s
+    → eqb (get_or s 0 0) (byte "0") && eqb (get_or s 1 0) (byte "x") ≡ begins_0x s
+prefix_long [] h = absurd (omega arith)
+prefix_long (x ∷ []) h = absurd (omega arith)
+prefix_long (x ∷ y ∷ s) h = rw and-true
+
+pub prefix_fits : (s : List ℕ) (hex : Bool) → hex ≡ begins_0x s → length (prefix hex) ≤ length s
+prefix_fits s false e = omega arith
+prefix_fits [] true e = absurd cc
+prefix_fits (x ∷ []) true e = let z = rw and-false at e in absurd cc
+prefix_fits (x ∷ y ∷ s) true e = omega arith
+
+pub finite_told : (sign : Sign) (s : List ℕ) (hex : Bool) → hex ≡ begins_0x s
+    → decide sign hex (run hex true (drop (length (prefix hex)) s)) ≡ finite sign s
 unfolding finite
-finite_told sign text at end true e = rw (e, finite)
-finite_told sign text at end false e = rw (e, add-zero, finite)
+finite_told sign s true e = rw (strip_some (prefix true) s (sym e) refl, finite)
+finite_told sign s false e = rw (strip_none (prefix true) s (sym e), finite)
+
+pub ruleset prefixes = (prefix_short, prefix_long)
 
 -- ---- the bytes after a sign
 
 pub nothing_after_sign : (sign : Sign) → Neither ≡ unsigned sign []
 unfolding unsigned is nothing_left strip finite run decide
 nothing_after_sign sign = refl
-
-other_first : (p : ℕ) (ps : List ℕ) (x : ℕ) (xs : List ℕ) → eqb x p ≡ false → strip (p ∷ ps) (x ∷ xs) ≡ none
-unfolding strip
-other_first p ps x xs e = rw (e, strip)
 
 other_word : (p : ℕ) (ps : List ℕ) (x : ℕ) (xs : List ℕ) → eqb x p ≡ false → is (p ∷ ps) (x ∷ xs) ≡ false
 unfolding is nothing_left
@@ -163,15 +205,10 @@ classified {s} {k} h = go (sound s) h.kind
     go (inl e) (inl q) = q ∙ sym e
     go (inl e) (inr l) = sym (complete l)
 
-pub ruleset places = (at_byte, at_end_empty, found_bad, found, found_within)
+pub ruleset floats = (fraction_bad, exponent_bad, normal_here, normal_more)
 
-pub ruleset floats = (places, fraction_bad, exponent_bad, normal_here, normal_more)
+pub ruleset decisions = (decide_bad, decide_integer, decide_float)
 
-pub ruleset decisions = (places, decide_bad, decide_integer, decide_float)
+pub ruleset payloads = (payload_bad, payload_here, payload_more)
 
-pub ruleset finites = (prefix_within, finite_told)
-
-pub ruleset payloads = (places, payload_bad, payload_here, payload_more)
-
-pub ruleset kinds =
-    (places, begins, begins_not, begins_within, nothing_after_sign, digit_first, is_inf, is_nan, is_payload, is_none)
+pub ruleset kinds = (nothing_after_sign, digit_first, is_inf, is_nan, is_payload, is_none)

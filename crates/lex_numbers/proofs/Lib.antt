@@ -1,5 +1,4 @@
 pub mod SliceLaws
 pub mod DigitLaws
 pub mod PartLaws
-pub mod WordLaws
 pub mod KindLaws

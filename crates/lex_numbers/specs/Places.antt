@@ -1,38 +1,27 @@
--- What the model of number literals says of lists of bytes, at places in a text.
-use Rattle.std.specs.Prelude.{ℕ, ◌+◌, ◌≤◌, ◌≡◌, Bool, true, false, List, length}
-use Rattle.std.proofs.Math.Option.{Option, none, some}
-use Rattle.std.proofs.Math.Seq.{slice}
-use Rattle.wat.specs.NumberModel.{Past, bad, past, strip, after_sign}
-use Rattle.lex_numbers.specs.declared.Skip.{Skip}
-use Rattle.lex_numbers.specs.declared.Skip.TheVariants.{Bad, To}
+-- What the model of number literals says of a word, and of the places in it.
+use Rattle.std.specs.Prelude.{ℕ, ◌≤◌, ◌≡◌, Bool, true, List, length, take, drop, eqb, Option, Some, None, IfSome}
+use Rattle.wat.specs.NumberModel.{Past, bad, past, after_sign}
+use Rattle.std.specs.Cmp.Lexicographic.{pointwise}
+use Rattle.wat.specs.Numbers.{prefix}
+use Rattle.lex_numbers.specs.declared.Skipped.{Skipped}
 
--- a place in a text, up to `end`, as the bytes that are left there
-abbrev pub left_at : List ℕ → ℕ → Skip → Past
-left_at text end Bad = bad
-left_at text end (To u i) = past u (slice i end text)
+-- what is passed of a word, as the bytes that are left of it
+abbrev pub left_at : List ℕ → Option Skipped → Past
+left_at word None = bad
+left_at word (Some d) = past d.underscores (drop d.at word)
 
-abbrev pub Within : ℕ → Skip → Type 0
-Within end Bad = Unit
-Within end (To u i) = i ≤ end
+abbrev pub Within : List ℕ → Option Skipped → Type 0
+Within word r = IfSome r (λ d. d.at ≤ length word)
 
--- the place `r` is what the model says
-pub record Skipped (text : List ℕ) (end : ℕ) (m : Past) (r : Skip) : Type 0 where
-  pub same : m ≡ left_at text end r
-  pub within : Within end r
+-- what is passed is what the model says
+pub record Skips (word : List ℕ) (m : Past) (r : Option Skipped) : Type 0 where
+  pub same : m ≡ left_at word r
+  pub within : Within word r
 
--- `word` is first, or not, as `r` says
-abbrev pub stripped : List ℕ → ℕ → ℕ → Bool → Option (List ℕ)
-stripped text i end true = some (slice i end text)
-stripped text i end false = none
+-- the word begins with 0x
+abbrev pub begins_0x : List ℕ → Bool
+begins_0x word = pointwise eqb (take 2 word) (prefix true)
 
-abbrev pub When : Bool → Type 0 → Type 0
-When true P = P
-When false P = Unit
-
-pub record Begins (text : List ℕ) (at end : ℕ) (word : List ℕ) (r : Bool) : Type 0 where
-  pub same : strip word (slice at end text) ≡ stripped text (at + length word) end r
-  pub within : When r (at + length word ≤ end)
-
-pub record PastSign (text : List ℕ) (at end r : ℕ) : Type 0 where
-  pub same : slice r end text ≡ after_sign (slice at end text)
-  pub within : r ≤ end
+pub record PastSign (word : List ℕ) (r : ℕ) : Type 0 where
+  pub same : drop r word ≡ after_sign word
+  pub within : r ≤ length word

@@ -1,56 +1,18 @@
 // The kind of what follows the sign of a literal: an infinity, a NaN with a payload or without, an integer or a float.
-ghost use Rattle.std.specs.Prelude.{◌≡◌, true, ◌+◌, ◌≤◌, length};
-ghost use Rattle.std.proofs.Math.Seq.{slice};
+ghost use Rattle.std.specs.Prelude.{◌≡◌, true, length};
 ghost use Rattle.wat.specs.Numbers.{marks, negative, prefix};
-ghost use Rattle.wat.specs.NumberModel.{past, run, is, fraction, exponent};
+ghost use Rattle.wat.specs.NumberModel.{past, run, fraction, exponent};
 ghost use Rattle.wat.specs.NumberModel.{at_end, then, decide, payload, finite, unsigned};
-ghost use Rattle.lex_numbers.specs.Places.{left_at, Within, Skipped, Begins};
+ghost use Rattle.lex_numbers.specs.Places.{left_at, Within, Skips, begins_0x};
 
-use super::{Skip, fraction_at, past_sign, skip_underscores};
+use super::{Skipped, past_sign, skip_underscores};
 use lex_classes::Table;
 use wat::{Number, Sign};
-
-// The bytes from `at` to `end` begin with `word`.
-#[tactic(auto, using(crate::proofs::WordLaws::words))]
-fn starts(text: &[u8], at: usize, end: usize, word: &[u8]) -> bool
-    requires { (at ≤ end) × (end ≤ length text.now) }
-    ensures { Begins text.now at end word.now result }
-{
-    let mut k = 0;
-    let mut i = at;
-    while k < word.len() {
-        if i == end {
-            return false;
-        }
-        if text[i] != word[k] {
-            return false;
-        }
-        k += 1;
-        i += 1;
-    }
-    true
-}
-
-// The bytes from `at` to `end` are `word`.
-#[tactic(auto, using(crate::proofs::WordLaws::words))]
-fn is_word(text: &[u8], at: usize, end: usize, word: &[u8]) -> bool
-    requires { (at ≤ end) × (end ≤ length text.now) }
-    ensures { result ≡ is word.now (slice at end text.now) }
-{
-    if starts(text, at, end, word) {
-        return end - at == word.len();
-    }
-    false
-}
 
 fn is_negative(sign: Sign) -> bool
     ensures { result ≡ negative sign }
 {
-    match sign {
-        Sign::Unsigned => false,
-        Sign::Plus => false,
-        Sign::Minus => true,
-    }
+    sign == Sign::Minus
 }
 
 // `c` begins an exponent.
@@ -64,148 +26,145 @@ fn is_mark(hex: bool, c: u8) -> bool
     (c == b'e') | (c == b'E')
 }
 
+// Passes a mark, a sign and the digits after it, where anything is left.
 #[tactic(auto, using(crate::proofs::PartLaws::exponents))]
-fn exponent_at(text: &[u8], at: usize, end: usize, hex: bool, t: &Table) -> Skip
-    requires at_le_end { (at ≤ end) × (end ≤ length text.now) }
-    ensures { Skipped text.now end (exponent hex (slice at end text.now)) result }
+fn exponent(word: &[u8], hex: bool, t: &Table) -> Option<Skipped>
+    ensures { Skips word.now (exponent hex word.now) result }
 {
-    if at == end {
-        return Skip::To {
+    if word.is_empty() {
+        return Some(Skipped {
             underscores: false,
-            at: at,
-        };
+            at: 0,
+        });
     }
-    if is_mark(hex, text[at]) {
-        let next = past_sign(text, at + 1, end);
-        return skip_underscores(text, next, end, false, t);
+    if !is_mark(hex, word[0]) {
+        return None;
     }
-    Skip::Bad
+    let next = 1 + past_sign(&word[1..]);
+    let digits = skip_underscores(&word[next..], false, t)?;
+    Some(Skipped {
+        underscores: digits.underscores,
+        at: next + digits.at,
+    })
 }
 
 // What follows the digits of a float: a fraction, an exponent, and nothing more. `seen` says whether the digits have
 // an underscore.
 #[tactic(auto, using(crate::proofs::KindLaws::floats))]
-fn float_at(text: &[u8], at: usize, end: usize, hex: bool, seen: bool, t: &Table) -> Number
-    requires at_le_end { (at ≤ end) × (end ≤ length text.now) }
-    ensures { result ≡ at_end
-        (then (then (past seen (slice at end text.now)) (fraction hex)) (exponent hex))
+fn float(word: &[u8], hex: bool, seen: bool, t: &Table) -> Number
+    ensures { result ≡ at_end (then (then (past seen word.now) (fraction hex)) (exponent hex))
         (Number.Normal hex) }
 {
-    let f = fraction_at(text, at, end, hex, t);
-    match f {
-        Skip::Bad => Number::Neither,
-        Skip::To {
-            underscores: g,
-            at: j,
-        } => {
-            let e = exponent_at(text, j, end, hex, t);
-            match e {
-                Skip::Bad => Number::Neither,
-                Skip::To {
-                    underscores: h,
-                    at: k,
-                } => {
-                    if k == end {
-                        return Number::Normal {
-                            hex: hex,
-                            underscores: seen | g | h,
-                        };
-                    }
-                    Number::Neither
-                }
-            }
-        }
+    let Some(f) = super::fraction(word, hex, t) else {
+        return Number::Neither;
+    };
+    let Some(e) = exponent(&word[f.at..], hex, t) else {
+        return Number::Neither;
+    };
+    if f.at + e.at != word.len() {
+        return Number::Neither;
+    }
+    Number::Normal {
+        hex,
+        underscores: seen | f.underscores | e.underscores,
     }
 }
 
 // The kind of a number whose digits are passed.
 #[tactic(auto, using(crate::proofs::KindLaws::decisions))]
-fn decide_at(text: &[u8], digits: Skip, end: usize, sign: Sign, hex: bool, t: &Table) -> Number
-    requires within { Within end digits × (end ≤ length text.now) }
-    ensures { result ≡ decide sign hex (left_at text.now end digits) }
+fn decide(word: &[u8], digits: Option<Skipped>, sign: Sign, hex: bool, t: &Table) -> Number
+    requires within { Within word.now digits }
+    ensures { result ≡ decide sign hex (left_at word.now digits) }
 {
-    match digits {
-        Skip::Bad => Number::Neither,
-        Skip::To { underscores, at } => {
-            if at == end {
-                return Number::Integer {
-                    sign: sign,
-                    hex: hex,
-                    underscores: underscores,
-                };
-            }
-            float_at(text, at, end, hex, underscores, t)
-        }
+    let Some(d) = digits else {
+        return Number::Neither;
+    };
+    if d.at == word.len() {
+        return Number::Integer {
+            sign,
+            hex,
+            underscores: d.underscores,
+        };
     }
+    float(&word[d.at..], hex, d.underscores, t)
 }
 
-// Passes the digits of a number, which stand after 0x where it is hexadecimal.
-// Each call names its radix, so that each loop is compiled for its own.
-fn digits_at(text: &[u8], at: usize, end: usize, hex: bool, t: &Table) -> Skip
-    requires prefix_within { (at + length (prefix hex) ≤ end) × (end ≤ length text.now) }
-    ensures { Skipped text.now end
-        (run hex true (slice (at + length (prefix hex)) end text.now)) result }
+// A word begins with 0x. Two bytes are compared here, where `strip_prefix` calls std's search for a slice, by which a
+// list of numbers took a tenth more instructions.
+#[tactic(auto, using(crate::proofs::KindLaws::prefixes))]
+fn begins_0x(word: &[u8]) -> bool
+    ensures { result ≡ begins_0x word.now }
+{
+    if word.len() < 2 {
+        return false;
+    }
+    (word[0] == b'0') & (word[1] == b'x')
+}
+
+fn prefix_len(hex: bool) -> usize
+    ensures { result ≡ length (prefix hex) }
 {
     if hex {
-        return skip_underscores(text, at + 2, end, true, t);
+        return 2;
     }
-    skip_underscores(text, at, end, false, t)
+    0
 }
 
-#[tactic(auto, using(crate::proofs::KindLaws::finites))]
-fn finite_at(text: &[u8], at: usize, end: usize, sign: Sign, t: &Table) -> Number
-    requires at_le_end { (at ≤ end) × (end ≤ length text.now) }
-    ensures { result ≡ finite sign (slice at end text.now) }
+// Passes the digits of a number. Each call names its radix, so that each loop is compiled for its own.
+fn digits(word: &[u8], hex: bool, t: &Table) -> Option<Skipped>
+    ensures { Skips word.now (run hex true word.now) result }
 {
-    let hex = starts(text, at, end, b"0x");
-    let digits = digits_at(text, at, end, hex, t);
-    decide_at(text, digits, end, sign, hex, t)
+    if hex {
+        return skip_underscores(word, true, t);
+    }
+    skip_underscores(word, false, t)
+}
+
+#[tactic(auto, using(crate::proofs::KindLaws::prefix_fits))]
+fn finite(word: &[u8], sign: Sign, t: &Table) -> Number
+    ensures { result ≡ finite sign word.now }
+{
+    let hex = begins_0x(word);
+    let rest = &word[prefix_len(hex)..];
+    decide(rest, digits(rest, hex, t), sign, hex, t)
 }
 
 #[tactic(auto, using(crate::proofs::KindLaws::payloads))]
-fn payload_at(text: &[u8], at: usize, end: usize, sign: Sign, t: &Table) -> Number
-    requires at_le_end { (at ≤ end) × (end ≤ length text.now) }
-    ensures { result ≡ payload sign (run true true (slice at end text.now)) }
+fn payload(word: &[u8], sign: Sign, t: &Table) -> Number
+    ensures { result ≡ payload sign (run true true word.now) }
 {
-    let digits = skip_underscores(text, at, end, true, t);
-    match digits {
-        Skip::Bad => Number::Neither,
-        Skip::To { underscores, at: i } => {
-            if i == end {
-                return Number::NanVal {
-                    negative: is_negative(sign),
-                    underscores: underscores,
-                };
-            }
-            Number::Neither
-        }
+    let Some(d) = skip_underscores(word, true, t) else {
+        return Number::Neither;
+    };
+    if d.at != word.len() {
+        return Number::Neither;
+    }
+    Number::NanVal {
+        negative: is_negative(sign),
+        underscores: d.underscores,
     }
 }
 
 // The kind of what follows a sign. The first byte tells most words that are no number.
 #[tactic(auto, using(crate::proofs::KindLaws::kinds))]
-pub fn unsigned_at(text: &[u8], at: usize, end: usize, sign: Sign, t: &Table) -> Number
-    requires at_le_end { (at ≤ end) × (end ≤ length text.now) }
-    ensures { result ≡ unsigned sign (slice at end text.now) }
+pub fn unsigned(word: &[u8], sign: Sign, t: &Table) -> Number
+    ensures { result ≡ unsigned sign word.now }
 {
-    if at == end {
+    if word.is_empty() {
         return Number::Neither;
     }
-    if t.is_digit(false, text[at]) {
-        return finite_at(text, at, end, sign, t);
+    if t.is_digit(false, word[0]) {
+        return finite(word, sign, t);
     }
-    if is_word(text, at, end, b"inf") {
-        return Number::Inf {
-            negative: is_negative(sign),
-        };
+    let negative = is_negative(sign);
+    if word == b"inf".as_slice() {
+        return Number::Inf { negative };
     }
-    if is_word(text, at, end, b"nan") {
-        return Number::Nan {
-            negative: is_negative(sign),
-        };
+    if word == b"nan".as_slice() {
+        return Number::Nan { negative };
     }
-    if starts(text, at, end, b"nan:0x") {
-        return payload_at(text, at + 6, end, sign, t);
+    match word.strip_prefix(b"nan:0x") {
+        Some(digits) => payload(digits, sign, t),
+        None => Number::Neither,
     }
-    Number::Neither
 }

@@ -2,70 +2,64 @@
 
 #![tactic(auto)]
 
-ghost use Rattle.std.specs.Prelude.{◌≡◌, true, ◌≤◌, length};
-ghost use Rattle.std.proofs.Math.Seq.{slice};
+ghost use Rattle.std.specs.Prelude.{◌≡◌, true};
 ghost use Rattle.wat.specs.Numbers.{KindOf};
 ghost use Rattle.wat.specs.NumberModel.{run, fraction, sign_of};
-ghost use Rattle.lex_numbers.specs.Places.{Skipped, PastSign};
+ghost use Rattle.lex_numbers.specs.Places.{Skips, PastSign};
 
 use lex_classes::Table;
 use wat::{Number, Sign};
 
 mod classify;
 
-// What passing a part of a literal says: whether it has an underscore, and where it ends; or that no such part is
-// there.
-#[derive(Clone, Copy)]
-pub enum Skip {
-    Bad,
-    To { underscores: bool, at: usize },
+// A part of a literal that is passed: whether it has an underscore, and where it ends.
+#[derive(Clone, Copy, PartialEq, Eq)]
+pub struct Skipped {
+    pub underscores: bool,
+    pub at: usize,
 }
 
-// Passes the digits that the bytes from `at` to `end` begin with, and the single underscores between them.
+// Passes the digits that a word begins with, and the single underscores between them; `None` where there are none, or
+// an underscore is last.
 // What `is_digit` says is stored and not only branched on, so that a hex digit costs one jump, be it a letter or not.
 #[tactic(auto, using(crate::proofs::DigitLaws::runs))]
-pub fn skip_underscores(text: &[u8], at: usize, end: usize, hex: bool, t: &Table) -> Skip
-    requires at_le_end { (at ≤ end) × (end ≤ length text.now) }
-    ensures { Skipped text.now end (run hex true (slice at end text.now)) result }
+pub fn skip_underscores(word: &[u8], hex: bool, t: &Table) -> Option<Skipped>
+    ensures { Skips word.now (run hex true word.now) result }
 {
-    let mut i = at;
     let mut must = true;
     let mut seen = false;
-    while i < end {
-        let c = text[i];
+    for (i, &c) in word.iter().enumerate() {
         let digit = t.is_digit(hex, c);
         if digit | (!must & (c == b'_')) {
             seen = seen | !digit;
             must = !digit;
-            i += 1;
         } else {
             if must {
-                return Skip::Bad;
+                return None;
             }
-            return Skip::To {
+            return Some(Skipped {
                 underscores: seen,
                 at: i,
-            };
+            });
         }
     }
     if must {
-        return Skip::Bad;
+        return None;
     }
-    Skip::To {
+    Some(Skipped {
         underscores: seen,
-        at: i,
-    }
+        at: word.len(),
+    })
 }
 
 #[tactic(auto, using(crate::proofs::PartLaws::signs_told))]
-pub fn sign_at(text: &[u8], at: usize, end: usize) -> Sign
-    requires { (at ≤ end) × (end ≤ length text.now) }
-    ensures { result ≡ sign_of (slice at end text.now) }
+pub fn sign_of(word: &[u8]) -> Sign
+    ensures { result ≡ sign_of word.now }
 {
-    if at == end {
+    if word.is_empty() {
         return Sign::Unsigned;
     }
-    let c = text[at];
+    let c = word[0];
     if c == b'+' {
         return Sign::Plus;
     }
@@ -75,60 +69,48 @@ pub fn sign_at(text: &[u8], at: usize, end: usize) -> Sign
     Sign::Unsigned
 }
 
+// Past the sign that a word begins with, if it does.
 #[tactic(auto, using(crate::proofs::PartLaws::signs_told))]
-pub fn past_sign(text: &[u8], at: usize, end: usize) -> usize
-    requires { (at ≤ end) × (end ≤ length text.now) }
-    ensures { PastSign text.now at end result }
+pub fn past_sign(word: &[u8]) -> usize
+    ensures { PastSign word.now result }
 {
-    if at == end {
-        return at;
+    if word.is_empty() {
+        return 0;
     }
-    let c = text[at];
+    let c = word[0];
     if (c == b'+') | (c == b'-') {
-        return at + 1;
+        return 1;
     }
-    at
+    0
 }
 
+// Passes a dot and the digits after it, where a word begins with a dot.
 #[tactic(auto, using(crate::proofs::PartLaws::fractions))]
-pub fn fraction_at(text: &[u8], at: usize, end: usize, hex: bool, t: &Table) -> Skip
-    requires at_le_end { (at ≤ end) × (end ≤ length text.now) }
-    ensures { Skipped text.now end (fraction hex (slice at end text.now)) result }
+pub fn fraction(word: &[u8], hex: bool, t: &Table) -> Option<Skipped>
+    ensures { Skips word.now (fraction hex word.now) result }
 {
-    if at == end {
-        return Skip::To {
+    if word.is_empty() || word[0] != b'.' {
+        return Some(Skipped {
             underscores: false,
-            at: at,
-        };
+            at: 0,
+        });
     }
-    if text[at] != b'.' {
-        return Skip::To {
+    if word.len() < 2 || !t.is_digit(hex, word[1]) {
+        return Some(Skipped {
             underscores: false,
-            at: at,
-        };
+            at: 1,
+        });
     }
-    let next = at + 1;
-    if next == end {
-        return Skip::To {
-            underscores: false,
-            at: next,
-        };
-    }
-    if t.is_digit(hex, text[next]) {
-        return skip_underscores(text, next, end, hex, t);
-    }
-    Skip::To {
-        underscores: false,
-        at: next,
-    }
+    let digits = skip_underscores(&word[1..], hex, t)?;
+    Some(Skipped {
+        underscores: digits.underscores,
+        at: 1 + digits.at,
+    })
 }
 
-// The kind of the number that the bytes from `at` to `end` are.
-pub fn classify_number(text: &[u8], at: usize, end: usize, t: &Table) -> Number
-    requires at_le_end { (at ≤ end) × (end ≤ length text.now) }
-    ensures { KindOf (slice at end text.now) result }
+// The kind of the number that a word is.
+pub fn classify_number(word: &[u8], t: &Table) -> Number
+    ensures { KindOf word.now result }
 {
-    let sign = sign_at(text, at, end);
-    let next = past_sign(text, at, end);
-    classify::unsigned_at(text, next, end, sign, t)
+    classify::unsigned(&word[past_sign(word)..], sign_of(word), t)
 }

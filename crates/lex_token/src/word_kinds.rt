@@ -36,7 +36,7 @@ pub fn word_kind(s: &[u8], at: usize, end: usize, t: &Table) -> u16
             return TokenKind::INTEGER;
         }
     }
-    named_kind(lex_numbers::classify_number(s, at, end, t), b, t)
+    named_kind(lex_numbers::classify_number(&s[at..end], t), b, t)
 }
 
 // Whether a number may begin with a letter b and a byte c: `inf`, `nan` and `nan:0x` are all that begin with a letter.

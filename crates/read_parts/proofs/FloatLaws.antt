@@ -11,14 +11,11 @@ use Rattle.wat_values.specs.declared.{FloatPart.FloatPart, Reading.Reading, Read
 use Rattle.wat_values.specs.declared.FloatPart.TheVariants as the
 use Rattle.wat.specs.Bytes.{byte, has}
 use Rattle.wat.specs.Numbers.{IsFloat}
-use Rattle.wat.specs.NumberModel.{fraction}
 use Rattle.wat.specs.Tokens.{Tok}
-use Rattle.lex_numbers.specs.Places.{Skipped}
-use Rattle.lex_numbers.specs.declared.Skip.{Skip}
 use Rattle.wat_values.specs.Values.{Reader, Reads}
 use Rattle.wat_values.proofs.SomeValue.{MadeFloat, made}
 use Rattle.read_parts.specs.Handing.{At, Payload, Leaves, Hands, HandsWhole, HandsPayload}
-use Rattle.read_parts.proofs.PartLaws.{none_left, Ended, fraction_ends, fraction_absent}
+use Rattle.read_parts.proofs.PartLaws.{none_left, fraction_absent}
 
 -- whether a number has underscores
 pub gaps : {text : List ℕ} {at end : ℕ} {u h : Bool} → At (Tok (kind.Float (Normal u h))) text at end
@@ -93,13 +90,11 @@ module _ {text : List ℕ} {at end : ℕ} {k : FloatKind} (t : At (Tok (kind.Flo
         go v Reads.of_normal = none_left at buffer
 
 -- no fraction, or a point alone
-pub no_fraction : {text buffer : List ℕ} {at end : ℕ} {u hex : Bool} {skip : Skip} (dot to : ℕ)
+pub no_fraction : {text buffer : List ℕ} {at end : ℕ} {u hex : Bool} (dot to : ℕ)
     → At (Tok (kind.Float (Normal u hex))) text at end → Leaves hex text at end (λ p f e. f ++ e) dot
-    → Skipped text end (fraction hex (slice dot end text)) skip → Ended end skip to → to - dot < 2
+    → Leaves hex text at end (λ p f e. e) to → to - dot < 2
     → Hands (Reader.float the.Fraction) (kind.Float (Normal u hex)) text at end buffer Absent buffer
-no_fraction {u = u} dot to t l s e h =
-    let n = normal_at t refl in
-    fraction_absent n l (fraction_ends n e l s) u h
+no_fraction {u = u} dot to t l m h = let n = normal_at t refl in fraction_absent n l m u h
 
 pub ruleset floats =
     (payload_is_at, whole_hands, payload_hands, inf_lacks, nan_lacks, payload_lacks, normal_lacks)

@@ -6,8 +6,9 @@ use mathlib.Core.Path.{◌≡◌, refl, sym, ap, subst, ◌∙◌}
 use mathlib.Core.Bool.{Bool, true, false, ◌||◌}
 use mathlib.Core.List.{List, [], ◌∷◌, ◌++◌, append-nil, append_assoc}
 use lib.Dec.{eqb}
-use lib.ListN.{length, length-append}
-use lib.Seq.{slice, length-slice}
+use lib.ListN.{length, take, drop, length-append}
+use lib.Seq.{slice, length-slice, drop-drop}
+use Rattle.std.specs.Prelude.{Option, Some, None, IfSome}
 use Rattle.wat.specs.declared.{Sign.Sign}
 use Rattle.wat_values.specs.declared.{Reading.Reading, Reading.TheVariants.Absent}
 use Rattle.wat.specs.declared.Sign.TheVariants.{Unsigned}
@@ -16,7 +17,7 @@ use Rattle.wat.specs.declared.TokenKind.TheVariants as kind
 use Rattle.wat_values.specs.declared.FloatPart.TheVariants as the
 use Rattle.wat.specs.Bytes.{bytes, byte, has}
 use Rattle.wat.specs.Numbers.{prefix, nan_colon, Digits, Signed, IsFloat}
-use Rattle.wat.specs.NumberModel.{Past, past, run, fraction, sign_of, after_sign}
+use Rattle.wat.specs.NumberModel.{Past, bad, past, run, fraction, sign_of, after_sign}
 use Rattle.wat_values.specs.Values.{Reader, absent, copy_or_part, bare, dropped, kept, Split, Reads}
 use Rattle.wat_values.specs.Reading.{Handed}
 use Rattle.wat.proofs.Numbers.Digits.{passes}
@@ -25,11 +26,12 @@ use Rattle.wat.proofs.Numbers.Decides.{body_plain}
 use Rattle.wat.proofs.Basics.{or_no}
 use Rattle.wat_values.proofs.SomeValue.{float_split}
 use Rattle.wat_values.proofs.ValueLaws.{has_parts}
-use Rattle.lex_numbers.specs.Places.{Skipped}
-use Rattle.lex_numbers.specs.declared.Skip.{Skip}
+use Rattle.lex_numbers.specs.Places.{Skips, PastSign}
+use Rattle.lex_numbers.specs.declared.Skipped.{Skipped}
+use Rattle.lex_numbers.proofs.SliceLaws.{slice_between}
 use Rattle.read_copies.specs.Copying.{HandsDigits}
 use Rattle.read_copies.proofs.CopyLaws.{bare_plain}
-use Rattle.read_parts.specs.Handing.{At, Payload, Left, Leaves, Hands}
+use Rattle.read_parts.specs.Handing.{At, Payload, Left, Leaves, Hands, end_of}
 use Rattle.read_parts.proofs.PlaceLaws.{apart, between, further}
 
 -- ---- signs
@@ -60,10 +62,29 @@ sign_before text i from end {sign} fits g h w k =
     (record { within = k; same = w }) in
     omega (arith, signed_length s.1)
 
--- what `end_of` ensures of the place i
-abbrev pub Ended : ℕ → Skip → ℕ → Type 0
-Ended end skip i =
-    (text : List ℕ) (m : Past) (u : Bool) (v : List ℕ) → Skipped text end m skip → m ≡ past u v → Left text end v i
+-- a sign is passed of what is left from i on
+pub sign_left : (text : List ℕ) (i end r : ℕ) → end ≤ length text → i ≤ end → PastSign (take (end - i) (drop i text)) r
+    → (slice (i + r) end text ≡ after_sign (slice i end text)) × (i + r ≤ end)
+sign_left text i end r fits h p =
+    let q = rw slice_between at p in
+    (sym (drop-drop r i (take end text)) ∙ q.same, omega (arith, q.within, length-slice i end text fits))
+
+-- where a scan of what is left from i on ends
+module _ (text : List ℕ) (i end : ℕ) (fits : end ≤ length text) {m : Past} where
+  pub ends_within : (r : Option Skipped) → Skips (slice i end text) m r → i ≤ end → IfSome r (λ d. i + d.at ≤ end)
+  ends_within None s h = tt
+  ends_within (Some d) s h = omega (arith, s.within, length-slice i end text fits)
+
+  ends : (r : Option Skipped) {u : Bool} {v : List ℕ} → Skips (slice i end text) m r → i ≤ end → m ≡ past u v
+      → Left text end v (end_of r i end)
+  ends None s h e = let z : bad ≡ past _ _ = sym s.same ∙ e in cc
+  ends (Some d) {u} {v} s h e = record {
+    within = ends_within (Some d) s h;
+    same = sym (drop-drop d.at i (take end text)) ∙ rest (sym s.same ∙ e);
+  }
+    where
+      rest : past d.underscores (drop d.at (slice i end text)) ≡ past u v → drop d.at (slice i end text) ≡ v
+      rest q = cc
 
 -- ---- a finite number
 
@@ -150,14 +171,14 @@ module _ {hex : Bool} {text : List ℕ} {at end : ℕ} (t : At (IsFloat hex) tex
 
   -- where its digits end, and its fraction, by what the scans find there
 
-  module _ {skip : Skip} {i j : ℕ} (ended : Ended end skip j) where
-    pub whole_ends : Leaves hex text at end (λ p f e. p ++ (f ++ e)) i → Skipped text end (run hex true (slice i end text)) skip
+  module _ (r : Option Skipped) {i j : ℕ} (e : j ≡ end_of r i end) (h : i ≤ end) where
+    pub whole_ends : Leaves hex text at end (λ p f e. p ++ (f ++ e)) i → Skips (slice i end text) (run hex true (slice i end text)) r
         → Leaves hex text at end (λ p f e. f ++ e) j
-    whole_ends l s = λ sign u p f e x. ended _ _ _ _ s (whole_passed x (l sign u p f e x))
+    whole_ends l s = λ sign u p f e' x. rw e (ends text i end t.fits r s h (whole_passed x (l sign u p f e' x)))
 
-    pub fraction_ends : Leaves hex text at end (λ p f e. f ++ e) i → Skipped text end (fraction hex (slice i end text)) skip
+    pub fraction_ends : Leaves hex text at end (λ p f e. f ++ e) i → Skips (slice i end text) (fraction hex (slice i end text)) r
         → Leaves hex text at end (λ p f e. e) j
-    fraction_ends l s = λ sign u p f e x. ended _ _ _ _ s (fraction_past x (l sign u p f e x))
+    fraction_ends l s = λ sign u p f e' x. rw e (ends text i end t.fits r s h (fraction_past x (l sign u p f e' x)))
 
   -- ---- its fraction, from `dot` to `to`
 

@@ -1,10 +1,11 @@
 -- A number's parts at places in a text, and what it is to hand one over.
-use Rattle.std.specs.Prelude.{ℕ, ◌≤◌, ◌≡◌, Bool, true, ◌||◌, List, ◌++◌, length}
+use Rattle.std.specs.Prelude.{ℕ, ◌+◌, ◌≤◌, ◌≡◌, Bool, true, ◌||◌, List, ◌++◌, length, Option, Some, None}
 use Rattle.std.proofs.Math.Seq.{slice}
 use Rattle.wat.specs.declared.{Sign.Sign, TokenKind.TokenKind}
 use Rattle.wat_values.specs.declared.Reading.{Reading}
 use Rattle.wat.specs.Bytes.{byte, has}
 use Rattle.wat_values.specs.Reading.{Handed}
+use Rattle.lex_numbers.specs.declared.Skipped.{Skipped}
 use Rattle.wat.specs.Numbers.{nan_colon, Digits, Signed}
 use Rattle.wat_values.specs.Values.{Reader, Value, copy_or_part, bare, dropped, kept, Split, Reads}
 
@@ -45,3 +46,8 @@ HandsPayload underscores text at end buffer r after =
     (sign : Sign) (u s : List ℕ) → Signed sign u → Digits true s → slice at end text ≡ u ++ (nan_colon ++ s)
     → underscores ≡ has (byte "_") (slice at end text)
     → Handed at (copy_or_part underscores (length (u ++ nan_colon)) (bare s)) buffer r after
+
+-- where a part that begins at `from` ends, and `end` if there is none
+abbrev pub end_of : Option Skipped → ℕ → ℕ → ℕ
+end_of None from end = end
+end_of (Some d) from end = from + d.at

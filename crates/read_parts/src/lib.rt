@@ -4,19 +4,17 @@
 
 #![tactic(auto)]
 
-ghost use Rattle.std.specs.Prelude.{◌≡◌, Bool, List, ◌++◌, ℕ};
+ghost use Rattle.std.specs.Prelude.{◌≡◌, ◌≤◌, ◌+◌, ◌++◌, IfSome};
 ghost use Rattle.wat.specs.declared.TokenKind.TheVariants.{Float};
 ghost use Rattle.wat.specs.declared.FloatKind.TheVariants.{Normal};
-ghost use Rattle.wat.specs.NumberModel.{Past, past};
 ghost use Rattle.wat.specs.Numbers.{IsFloat};
 ghost use Rattle.wat.specs.Tokens.{Tok};
 ghost use Rattle.wat_values.specs.declared.FloatPart.TheVariants.{Fraction, Exponent};
 ghost use Rattle.wat_values.specs.Values.{Reader};
-ghost use Rattle.lex_numbers.specs.Places.{Skipped};
-ghost use Rattle.read_parts.specs.Handing.{At, Payload, Left, Leaves, Hands, HandsWhole, HandsPayload};
+ghost use Rattle.read_parts.specs.Handing.{At, Payload, Leaves, Hands, HandsWhole, HandsPayload, end_of};
 
 use lex_classes::Table;
-use lex_numbers::Skip;
+use lex_numbers::Skipped;
 use wat::{FloatKind, Sign};
 use wat_values::{FloatPart, Reading};
 
@@ -68,9 +66,9 @@ pub fn whole(
     ensures { HandsWhole hex underscores text.now at end buffer.old result
         buffer.new }
 {
-    let sign = lex_numbers::sign_at(text, at, end);
+    let sign = lex_numbers::sign_of(&text[at..end]);
     let from = past_prefix(text, at, end, hex);
-    let to = end_of(lex_numbers::skip_underscores(text, from, end, hex, t), end);
+    let to = past_whole(text, at, end, hex, t);
     read_copies::hand(text, from, to, sign, hex | underscores, buffer)
 }
 
@@ -90,7 +88,7 @@ fn fraction(
         buffer.old result buffer.new }
 {
     let dot = past_whole(text, at, end, hex, t);
-    let to = end_of(lex_numbers::fraction_at(text, dot, end, hex, t), end);
+    let to = past_fraction(text, dot, at, end, hex, t);
     if to - dot < 2 {
         return Reading::Absent;
     }
@@ -112,12 +110,13 @@ fn exponent(
         buffer.old result buffer.new }
 {
     let dot = past_whole(text, at, end, hex, t);
-    let mark = end_of(lex_numbers::fraction_at(text, dot, end, hex, t), end);
+    let mark = past_fraction(text, dot, at, end, hex, t);
     if mark == end {
         return Reading::Absent;
     }
-    let sign = lex_numbers::sign_at(text, mark + 1, end);
-    let from = lex_numbers::past_sign(text, mark + 1, end);
+    let power = &text[mark + 1..end];
+    let sign = lex_numbers::sign_of(power);
+    let from = mark + 1 + lex_numbers::past_sign(power);
     read_copies::hand(text, from, end, sign, underscores, buffer)
 }
 
@@ -127,16 +126,17 @@ fn payload(text: &[u8], at: usize, end: usize, underscores: bool, buffer: &mut [
     ensures { HandsPayload underscores text.now at end buffer.old result
         buffer.new }
 {
-    let from = lex_numbers::past_sign(text, at, end) + 6;
+    let from = at + lex_numbers::past_sign(&text[at..end]) + 6;
     read_copies::hand(text, from, end, Sign::Unsigned, underscores, buffer)
 }
 
 // Past the sign and 0x: where the digits of a number begin.
 pub fn past_prefix(text: &[u8], at: usize, end: usize, hex: bool) -> usize
     requires { At (IsFloat hex) text.now at end }
-    ensures { Leaves hex text.now at end (λ p f e. p ++ (f ++ e)) result }
+    ensures leaves { Leaves hex text.now at end (λ p f e. p ++ (f ++ e)) result }
+    ensures within { result ≤ end }
 {
-    let next = lex_numbers::past_sign(text, at, end);
+    let next = at + lex_numbers::past_sign(&text[at..end]);
     if hex {
         return next + 2;
     }
@@ -146,19 +146,34 @@ pub fn past_prefix(text: &[u8], at: usize, end: usize, hex: bool) -> usize
 // Past the digits before the point.
 fn past_whole(text: &[u8], at: usize, end: usize, hex: bool, t: &Table) -> usize
     requires at { At (IsFloat hex) text.now at end }
-    ensures { Leaves hex text.now at end (λ p f e. f ++ e) result }
+    ensures leaves { Leaves hex text.now at end (λ p f e. f ++ e) result }
+    ensures within { result ≤ end }
 {
     let from = past_prefix(text, at, end, hex);
-    end_of(lex_numbers::skip_underscores(text, from, end, hex, t), end)
+    end_of(
+        lex_numbers::skip_underscores(&text[from..end], hex, t),
+        from,
+        end,
+    )
 }
 
-// Where a part ends; `end` if there is no such part, and then the value is unused.
-fn end_of(skip: Skip, end: usize) -> usize
-    ensures { (text : List ℕ) (m : Past) (u : Bool) (v : List ℕ) → Skipped text end m skip → m ≡ past u v
-        → Left text end v result }
+// Past the fraction, which begins at `dot`, if there is one.
+fn past_fraction(text: &[u8], dot: usize, at: usize, end: usize, hex: bool, t: &Table) -> usize
+    requires at { At (IsFloat hex) text.now at end }
+    requires dot { Leaves hex text.now at end (λ p f e. f ++ e) dot × (dot ≤ end) }
+    ensures leaves { Leaves hex text.now at end (λ p f e. e) result }
+    ensures within { result ≤ end }
 {
-    match skip {
-        Skip::Bad => end,
-        Skip::To { underscores: _, at } => at,
+    end_of(lex_numbers::fraction(&text[dot..end], hex, t), dot, end)
+}
+
+// Where a part that begins at `from` ends; `end` if there is no such part, and then the value is unused.
+fn end_of(skipped: Option<Skipped>, from: usize, end: usize) -> usize
+    requires { IfSome skipped (λ d. from + d.at ≤ end) }
+    ensures { result ≡ end_of skipped from end }
+{
+    match skipped {
+        Some(d) => from + d.at,
+        None => end,
     }
 }
