@@ -86,13 +86,9 @@ fn bare_len(text: &[u8], from: usize, to: usize) -> usize
     ensures { (result ≡ length (bare (slice from to text.now))) × (result ≤ to - from) }
 {
     let mut n: usize = 0;
-    let mut i = from;
-    while i < to {
-        if text[i] == b'_' {
-            i += 1;
-        } else {
+    for i in from..to {
+        if text[i] != b'_' {
             n += 1;
-            i += 1;
         }
     }
     n
@@ -106,15 +102,11 @@ fn bare_into(text: &[u8], from: usize, to: usize, buffer: &mut [u8], at: usize)
     ensures { Put buffer.old buffer.new at (bare (slice from to text.now)) }
 {
     let mut n = at;
-    let mut i = from;
-    while i < to {
+    for i in from..to {
         let b = text[i];
-        if b == b'_' {
-            i += 1;
-        } else {
+        if b != b'_' {
             buffer[n] = b;
             n += 1;
-            i += 1;
         }
     }
 }

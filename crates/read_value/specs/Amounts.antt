@@ -1,14 +1,12 @@
 -- Numbers up to a limit, and the words that they are.
-use Rattle.std.specs.Prelude.{ℕ, zero, suc, ◌+◌, ◌-◌, ◌/◌, ◌≤◌, ◌<◌, ◌≡◌}
+use Rattle.std.specs.Prelude.{ℕ, zero, suc, ◌+◌, ◌-◌, ◌/◌, ◌≤◌, ◌<◌, ◌≡◌, Option, Some, None}
 use Rattle.wat.specs.declared.Sign.{Sign}
 use Rattle.wat.specs.declared.Sign.TheVariants.{Unsigned, Plus, Minus}
-use Rattle.read_value.specs.declared.Amount.{Amount}
-use Rattle.read_value.specs.declared.Amount.TheVariants.{TooGreat, Is}
 
 -- the number n, or that it is greater than the limit
-abbrev pub Amounts : ℕ → ℕ → Amount → Type 0
-Amounts limit n TooGreat = limit < n
-Amounts limit n (Is m) = (m ≡ n) × (n ≤ limit)
+abbrev pub Amounts : ℕ → ℕ → Option ℕ → Type 0
+Amounts limit n None = limit < n
+Amounts limit n (Some m) = (m ≡ n) × (n ≤ limit)
 
 -- the greatest number that stands behind a sign, where max is 2^N - 1
 abbrev pub greatest : Sign → ℕ → ℕ

@@ -59,8 +59,8 @@ fn word_at(text: &[u8], at: usize, end: usize, kind: IntegerKind, max: u64) -> I
     let from = read_parts::past_prefix(text, at, end, hex);
     let sign = kind.sign;
     match number(text, from, end, hex, greatest(sign, max)) {
-        Amount::TooGreat => IntegerValue::OutOfRange,
-        Amount::Is(n) => IntegerValue::Word(word_of(sign, n, max)),
+        None => IntegerValue::OutOfRange,
+        Some(n) => IntegerValue::Word(word_of(sign, n, max)),
     }
 }
 
@@ -93,41 +93,30 @@ fn word_of(sign: Sign, n: u64, max: u64) -> u64
     }
 }
 
-// The number that digits are, if it is no greater than a limit.
-#[derive(Clone, Copy)]
-pub enum Amount {
-    TooGreat,
-    Is(u64),
-}
-
-// The number of the digits from `from` to `end`, underscores passed over.
+// The number of the digits from `from` to `end`, underscores passed over, if it is no greater than a limit.
 #[tactic(auto, using(crate::proofs::AmountLaws::amounts))]
-fn number(text: &[u8], from: usize, end: usize, hex: bool, limit: u64) -> Amount
+fn number(text: &[u8], from: usize, end: usize, hex: bool, limit: u64) -> Option<u64>
     requires { (from ≤ end) × (end ≤ length text.now) }
     ensures { Amounts limit (amount (radix hex) 0 (slice from end text.now)) result }
 {
     let radix = radix_of(hex);
     let most = limit / radix;
     let mut n: u64 = 0;
-    let mut i = from;
-    while i < end {
+    for i in from..end {
         let c = text[i];
-        if c == b'_' {
-            i += 1;
-        } else {
+        if c != b'_' {
             if most < n {
-                return Amount::TooGreat;
+                return None;
             }
             let m = n * radix;
             let d = lex_classes::hex_value(c) as u64;
             if limit - m < d {
-                return Amount::TooGreat;
+                return None;
             }
             n = m + d;
-            i += 1;
         }
     }
-    Amount::Is(n)
+    Some(n)
 }
 
 fn radix_of(hex: bool) -> u64

@@ -8,6 +8,3 @@ abbrev pub invariant-loop-i : goal.invariant-loop-i
 invariant-loop-i l =
     (l.from ≤ l.i) × (l.i ≤ l.to) × (l.n ≤ l.i - l.from)
     × (l.n + length (bare (slice l.i l.to l.text)) ≡ length (bare (slice l.from l.to l.text)))
-
-abbrev pub decreases-loop-i : goal.decreases-loop-i
-decreases-loop-i l = l.to - l.i

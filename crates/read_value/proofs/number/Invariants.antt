@@ -1,4 +1,4 @@
-use Rattle.std.proofs.Common.{◌≡◌, ◌-◌, ◌≤◌}
+use Rattle.std.proofs.Common.{◌≡◌, ◌≤◌}
 use Rattle.std.proofs.Math.Seq.{slice}
 use Rattle.wat_values.specs.Integers.{radix}
 use Rattle.wat_values.specs.IntegerModel.{amount}
@@ -9,6 +9,3 @@ abbrev pub invariant-loop-i : goal.invariant-loop-i
 invariant-loop-i l =
     (l.from ≤ l.i) × (l.i ≤ l.end) × (l.n ≤ l.limit)
     × (amount l.radix l.n (slice l.i l.end l.text) ≡ amount (radix l.hex) 0 (slice l.from l.end l.text))
-
-abbrev pub decreases-loop-i : goal.decreases-loop-i
-decreases-loop-i l = l.end - l.i
