@@ -10,12 +10,14 @@ ghost use Rattle.codes.specs.Numbered.{Names};
 use std::marker::Model;
 use wat::{FloatKind, IntegerKind, LexError, Refusal, Sign, TokenKind};
 
+#[inline(always)]
 fn flag(is: bool, n: u16) -> u16
     ensures { (result ≡ flag_of is n) × (result ≤ n) }
 {
     if is { n } else { 0 }
 }
 
+#[inline(always)]
 fn sign_number(s: Sign) -> u16
     ensures { (result ≡ sign_number s) × (result ≤ 512) }
 {
@@ -26,6 +28,7 @@ fn sign_number(s: Sign) -> u16
     }
 }
 
+#[inline(always)]
 fn integer_number(i: IntegerKind) -> u16
     ensures { result ≡ kind_number (TokenKind.Integer i) }
 {
@@ -36,6 +39,7 @@ fn integer_number(i: IntegerKind) -> u16
         + flag(i.hex, TokenKind::HEX)
 }
 
+#[inline(always)]
 fn float_number(f: FloatKind) -> u16
     ensures { result ≡ float_number f }
 {
@@ -54,6 +58,7 @@ fn float_number(f: FloatKind) -> u16
     }
 }
 
+#[inline(always)]
 pub fn kind_number(k: TokenKind) -> u16
     ensures { result ≡ kind_number k }
 {
@@ -164,6 +169,7 @@ impl Model for KindNumber {
 }
 
 impl KindNumber {
+    #[inline(always)]
     pub fn new(k: TokenKind) -> KindNumber
         ensures { result ≡ k }
     {
@@ -173,6 +179,7 @@ impl KindNumber {
     }
 
     // The number itself.
+    #[inline(always)]
     pub fn get(self) -> u16
         ensures { result ≡ kind_number self }
     {

@@ -1,8 +1,9 @@
 -- From the code's steps and errors to the answers of the calls. Assumes nothing.
-use Prim.Native.Nat.{ℕ, zero, suc, ◌+◌, ◌-◌, ◌≤◌, ◌<◌}
+use Prim.Native.Nat.{ℕ, ◌+◌, ◌-◌, ◌≤◌, ◌<◌}
 use mathlib.Core.Path.{◌≡◌, refl, sym, ap, subst, ◌∙◌}
 use mathlib.Core.Bool.{true, false}
 use mathlib.Core.List.{List, [], ◌∷◌}
+use Rattle.std.specs.Prelude.{Option, Some, None}
 use native.Mathlib.Omega.{arith}
 use lib.ListN.{length, drop, length-drop, drop_of_length-le}
 use borrow.Author.Tests.{eqb-true}
@@ -13,7 +14,6 @@ use Rattle.wat.specs.declared.Refusal.TheVariants.{Lexical}
 use Rattle.wat.specs.Answers as answer
 use Rattle.wat.specs.declared.Found.TheVariants as found
 use Rattle.wat.specs.Faults.{fault}
-use Rattle.wat.specs.Cases.{kind_number}
 use Rattle.wat.specs.Bytes.{byte}
 use Rattle.wat.specs.Utf8.{WellFormed}
 use Rattle.wat.specs.Lexing.{Lexed}
@@ -21,7 +21,6 @@ use Rattle.wat.specs.LexModel.{next, lex}
 use Rattle.wat.specs.Calls.{Text, Stands, AtSign, Parses, Annotates}
 use Rattle.wat.proofs.Basics.{differ, never, fault_same}
 use Rattle.wat_laws.proofs.{Total.lexed, OneCall.sign_stands}
-use Rattle.wat.proofs.KindNumbers.{kind_some, injective}
 use Rattle.lex_token.specs.declared.Step.{Step}
 use Rattle.lex_token.specs.Steps.{Stepped, Faults}
 use Rattle.lex_token.proofs.StepLaws.{token_of, fault_of}
@@ -32,51 +31,34 @@ use Rattle.lex_token.proofs.LexLaws.{lexed_within}
 pub next_end : (σ : Settings) (text : List ℕ) (pos : ℕ) → pos ≡ length text → Lexed σ (drop pos text) answer.End
 next_end σ text pos e = let h : length text ≤ pos = omega arith in Lexed.end (drop_of_length-le text h)
 
-module _ (σ : Settings) (text : List ℕ) (pos : ℕ) {r : Step} (s : Stepped σ text pos r) (g : WellFormed (drop pos text)) where
-  module _ (k : TokenKind) (e : kind_number k ≡ r.kind) where
-    some : r.kind ≡ 0 → ⊥
-    some z = kind_some k (e ∙ z)
+module _ (σ : Settings) (text : List ℕ) (pos : ℕ) {r : Option Step} (s : Stepped σ text pos r) (g : WellFormed (drop pos text)) where
+  module _ {x : Step} (e : r ≡ Some x) where
+    pub token_onward : pos ≤ x.end
+    token_onward = let h = s.onward x e in omega arith
 
-    pub token_onward : pos ≤ r.end
-    token_onward = let h = s.onward some in omega arith
-
-    pub next_token : Lexed σ (drop pos text) (answer.Token k (r.end - pos))
-    next_token =
-        let t = token_of s some in
-        let j = injective k t.0 (e ∙ t.3) in
-        let l : r.end - pos ≡ t.1 = omega (arith, t.4) in
-        subst (λ (a : Answer). Lexed σ (drop pos text) a) (t.2 ∙ sym (cc)) (lexed σ g)
+    pub next_token : {k : TokenKind} → k ≡ x.kind → Lexed σ (drop pos text) (answer.Token k (x.end - pos))
+    next_token {k} z =
+        let t = token_of s e in
+        let l : x.end - pos ≡ t.0 = omega (arith, t.2) in
+        subst (λ (a : Answer). Lexed σ (drop pos text) a) (t.1 ∙ sym (cc)) (lexed σ g)
 
   -- the fault, counted from the text's start: it stands at the position or after it
-  module _ {f : Fault} (h : pos < length text) (e : (k : TokenKind) → kind_number k ≡ r.kind → ⊥)
-      (x : Faults pos (lex σ (drop pos text)) f) where
+  module _ {f : Fault} (h : pos < length text) (e : r ≡ None) (x : Faults pos (lex σ (drop pos text)) f) where
     pub fault_onward : (pos ≤ f.place) × (pos ≤ f.after)
-    fault_onward = go r.kind refl
-      where
-        go : (i : ℕ) → r.kind ≡ i → (pos ≤ f.place) × (pos ≤ f.after)
-        go zero z =
-            let t = fault_of s h g z in
-            let y = x.is t.0 t.1 in
-            (omega (arith, ap (λ (u : Fault). u.place) y), omega (arith, ap (λ (u : Fault). u.after) y))
-        go (suc i) z =
-            let t = token_of s (λ q. omega arith) in
-            absurd (e t.0 (sym t.3))
+    fault_onward =
+        let t = fault_of s h g e in
+        let y = x.is t.0 t.1 in
+        (omega (arith, ap (λ (u : Fault). u.place) y), omega (arith, ap (λ (u : Fault). u.after) y))
 
     pub next_fault : Lexed σ (drop pos text) (answer.Fault (fault f.error (f.place - pos) (f.after - pos)))
-    next_fault = go r.kind refl
-      where
-        go : (i : ℕ) → r.kind ≡ i → Lexed σ (drop pos text) (answer.Fault (fault f.error (f.place - pos) (f.after - pos)))
-        go zero z =
-            let t = fault_of s h g z in
-            let y = x.is t.0 t.1 in
-            let p : t.0.place ≡ f.place - pos = omega (arith, ap (λ (u : Fault). u.place) y) in
-            let q : t.0.after ≡ f.after - pos = omega (arith, ap (λ (u : Fault). u.after) y) in
-            let er : t.0.error ≡ f.error = sym (ap (λ (u : Fault). u.error) y) in
-            let same = fault_same t.0.error p q ∙ ap (λ w. fault w (f.place - pos) (f.after - pos)) er in
-            subst (λ (a : Answer). Lexed σ (drop pos text) a) (t.1 ∙ ap answer.Fault same) (lexed σ g)
-        go (suc i) z =
-            let t = token_of s (λ q. omega arith) in
-            absurd (e t.0 (sym t.3))
+    next_fault =
+        let t = fault_of s h g e in
+        let y = x.is t.0 t.1 in
+        let p : t.0.place ≡ f.place - pos = omega (arith, ap (λ (u : Fault). u.place) y) in
+        let q : t.0.after ≡ f.after - pos = omega (arith, ap (λ (u : Fault). u.after) y) in
+        let er : t.0.error ≡ f.error = sym (ap (λ (u : Fault). u.error) y) in
+        let same = fault_same t.0.error p q ∙ ap (λ w. fault w (f.place - pos) (f.after - pos)) er in
+        subst (λ (a : Answer). Lexed σ (drop pos text) a) (t.1 ∙ ap answer.Fault same) (lexed σ g)
 
 -- ---- an answer and its bounds, from a position on
 

@@ -77,11 +77,9 @@ pub fn next(text: &[u8], at: usize, settings: Settings, t: &Table) -> Result<Opt
     if at == text.len() {
         return Ok(None);
     }
-    let step = lex_token::parse_kind(text, at, settings, t);
-    let number = step.kind;
-    match codes::kind_of(number) {
-        Some(kind) => Ok(Some(Lexeme {
-            kind,
+    match lex_token::parse_kind(text, at, settings, t) {
+        Some(step) => Ok(Some(Lexeme {
+            kind: step.kind.kind(),
             len: step.end - at,
         })),
         None => {

@@ -2,6 +2,7 @@
 use Prim.Native.Nat.{ℕ, ◌+◌, ◌-◌, ◌*◌, ◌≤◌, ◌<◌}
 use mathlib.Core.Path.{◌≡◌, refl, sym, ap, ◌∙◌, subst}
 use mathlib.Core.List.{List, [], ◌∷◌, ◌++◌}
+use Rattle.std.specs.Prelude.{Option, Some, None}
 use native.Mathlib.Omega.{arith}
 use lib.ListN.{length, take, drop, length-append, take-append-drop}
 use lib.Seq.{drop-drop, take-append_seam, drop-append_seam}
@@ -66,19 +67,19 @@ module _ {σ : Settings} {text : List ℕ} {start budget : ℕ} {old out : List 
   lexes : {a : Answer} → lex σ (drop at text) ≡ a → Lexed σ (drop at text) a
   lexes e = subst (λ (a : Answer). Lexed σ (drop at text) a) e (lexed σ g.walked.stands.between)
 
-  pub goes_refused : {r : Step} {f : Fault} → Stepped σ text at r → at < length text → (n ≡ budget → ⊥) → r.kind ≡ 0
+  pub goes_refused : {r : Option Step} {f : Fault} → Stepped σ text at r → at < length text → (n ≡ budget → ⊥) → r ≡ None
       → Faults at (lex σ (drop at text)) f → Done (stop.Refused (Lexical f.error) f.place) f.after
   goes_refused {r} {f} s h q z fs =
       let e = fault_of s h g.walked.stands.between z in
       subst (λ (x : Fault). Done (stop.Refused (Lexical x.error) x.place) x.after) (sym (fs.is e.0 e.1))
       (goes_stops (Stops.fault (omega (arith, g.few)) (lexes e.1)))
 
-  pub goes_full : {r : Step} {used : ℕ} → Stepped σ text at r → (n ≡ budget → ⊥) → (r.kind ≡ 0 → ⊥)
+  pub goes_full : {r : Option Step} {x : Step} {used : ℕ} → Stepped σ text at r → (n ≡ budget → ⊥) → r ≡ Some x
       → used ≡ record_size * n
       → length out - used < record_size → Done stop.Full at
-  goes_full {r} s q z u h =
+  goes_full s q z u h =
       let t = token_of s z in
-      goes_stops (Stops.full (omega (arith, g.few)) (omega (arith, g.len)) (lexes t.2))
+      goes_stops (Stops.full (omega (arith, g.few)) (omega (arith, g.len)) (lexes t.1))
 
   -- one token more, with its record
   goes_more : (new : List ℕ) (k : TokenKind) (m : ℕ) → Lexed σ (drop at text) (answer.Token k m) → (n ≡ budget → ⊥)
@@ -116,15 +117,14 @@ module _ {σ : Settings} {text : List ℕ} {start budget : ℕ} {old out : List 
             (rest ∙ ap (λ (i : ℕ). drop i old) (sym six));
       }
 
-  pub goes_stepped : {r : Step} {used : ℕ} (new : List ℕ) → Stepped σ text at r → (n ≡ budget → ⊥)
-      → (r.kind ≡ 0 → ⊥) → used ≡ record_size * n
-      → record_size ≤ length out - used → Put out new used (little 4 (r.end - at) ++ little 2 r.kind)
-      → Goes σ text start budget old new r.end (n + 1)
-  goes_stepped {r} {used} new s q z u h p =
+  pub goes_stepped : {r : Option Step} {x : Step} {used : ℕ} (new : List ℕ) → Stepped σ text at r → (n ≡ budget → ⊥)
+      → r ≡ Some x → used ≡ record_size * n → record_size ≤ length out - used
+      → Put out new used (little 4 (x.end - at) ++ little 2 (kind_number x.kind)) → Goes σ text start budget old new x.end (n + 1)
+  goes_stepped {r} {x} {used} new s q z u h p =
       let t = token_of s z in
-      let m : r.end - at ≡ t.1 = omega (arith, t.4) in
-      let put : Put out new (record_size * n) (little 4 t.1 ++ little 2 (kind_number t.0)) = rw (← u, ← m, ← t.3) p in
-      rw t.4 (goes_more new t.0 t.1 (lexes t.2) q (omega arith) put)
+      let m : x.end - at ≡ t.0 = omega (arith, t.2) in
+      let put : Put out new (record_size * n) (little 4 t.0 ++ little 2 (kind_number x.kind)) = rw (← u, ← m) p in
+      rw t.2 (goes_more new x.kind t.0 (lexes t.1) q (omega arith) put)
 
 -- what the loop and the call of the listing answer
 pub ruleset goings = (goes_start, goes_end, goes_budget, goes_full, goes_stepped)

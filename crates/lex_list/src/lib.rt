@@ -3,19 +3,22 @@
 #![tactic(auto)]
 
 ghost use Rattle.std.specs.Prelude.{◌+◌, ◌≤◌, ◌<◌, ◌++◌, length, drop};
+ghost use Rattle.wat.specs.Cases.{kind_number};
 ghost use Rattle.wat.specs.Division.{little, record_size, Listing};
 ghost use Rattle.wat.specs.Calls.{Stands};
 ghost use Rattle.buffers.specs.Writing.{Put};
 
+use codes::KindNumber;
 use lex_classes::Table;
 use wat::{Listed, Refusal, Refused, Settings, Stop, Token};
 
 // A token's record at a place of the list: its length in four bytes and its kind in two, the least first.
 #[tactic(auto, using(crate::proofs::RecordLaws::six_stores))]
-fn put_record(list: &mut [u8], to: usize, len: usize, kind: u16)
+fn put_record(list: &mut [u8], to: usize, len: usize, kind: KindNumber)
     requires { (to + record_size ≤ length list.old) × (len < 4294967296) }
-    ensures { Put list.old list.new to (little 4 len ++ little 2 kind) }
+    ensures { Put list.old list.new to (little 4 len ++ little 2 (kind_number kind)) }
 {
+    let kind = kind.get();
     list[to] = (len % 256) as u8;
     list[to + 1] = (len / 256 % 256) as u8;
     list[to + 2] = (len / 256 / 256 % 256) as u8;
@@ -48,8 +51,7 @@ fn list_from(
                 position: at,
             };
         }
-        let step = lex_token::step_at(text, at, settings, &t);
-        if step.kind == 0 {
+        let Some(step) = lex_token::step_at(text, at, settings, &t) else {
             let fault = lex_calls::fault_at(text, at, settings, &t);
             let error = fault.error;
             return Listed {
@@ -60,7 +62,7 @@ fn list_from(
                 count: n,
                 position: fault.after,
             };
-        }
+        };
         if list.len() - used < Token::RECORD {
             return Listed {
                 stop: Stop::Full,

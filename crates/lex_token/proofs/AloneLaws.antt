@@ -7,12 +7,12 @@ use mathlib.Core.List.{List, [], ◌∷◌, ◌++◌, append-nil}
 use native.Mathlib.Omega.{arith}
 use lib.ListN.{length, get_or, take, drop, drop_of_length-le}
 use lib.Seq.{slice, take-length, drop-cons}
+use Rattle.wat.specs.declared.TokenKind.{TokenKind}
 use Rattle.wat.specs.declared.TokenKind.TheVariants as kind
 use Rattle.wat.specs.declared.RunEnd.TheVariants.{Stops as stops}
 use Rattle.wat.specs.declared.Settings.{Settings}
 use Rattle.wat.specs.Settings.{lenient}
 use Rattle.wat.specs.Bytes.{byte, between, Each}
-use Rattle.wat.specs.Cases.{kind_number}
 use Rattle.wat.specs.Utf8.{WellFormed}
 use Rattle.wat.specs.Chars.{idchar}
 use Rattle.wat.specs.Strings.{Elems, Str}
@@ -59,7 +59,7 @@ module _ (s : List ℕ) (l : 0 < length s) {i : ℕ} (scan : Scanned idchar true
       subst WellFormed (sym (slice_split s 0 (length s) m (omega arith)))
       (ascii_formed (drop (length s) s) idchar_ascii (scanned_each all) (rw e WellFormed.empty))
 
-  whole : {k : ℕ} → k ≡ kind_number (word_kind (classify (slice 0 (length s) s)) (get_or s 0 0)) → Whole s k
+  whole : {k : TokenKind} → k ≡ word_kind (classify (slice 0 (length s) s)) (get_or s 0 0) → Whole s k
   whole e =
       let q = next_end (byte "\"") s (length s) all.within in
       record {
@@ -68,8 +68,8 @@ module _ (s : List ℕ) (l : 0 < length s) {i : ℕ} (scan : Scanned idchar true
             λ σ. stepped σ s 0 l word_formed (family_idchar (get_or s 0 0) first) (word_step σ s 0 (length s) all word_formed q l e);
       }
 
-pub word_whole : (s : List ℕ) (i k : ℕ) → Scanned idchar true s 0 i → i ≡ length s
-    → k ≡ kind_number (word_kind (classify (slice 0 (length s) s)) (get_or s 0 0)) → 0 < length s → Whole s k
+pub word_whole : (s : List ℕ) (i : ℕ) (k : TokenKind) → Scanned idchar true s 0 i → i ≡ length s
+    → k ≡ word_kind (classify (slice 0 (length s) s)) (get_or s 0 0) → 0 < length s → Whole s k
 word_whole s i k scan h e l = whole s l scan h e
 
 -- ---- a string
@@ -104,15 +104,15 @@ module _ {w : List ℕ} (each : Each raw true w) where
   string_kind : kind_of (take (length text) text) ≡ kind.String
   string_kind = ap kind_of (take-length text) ∙ kind_one_string Each.none (string lenient)
 
-  between_quotes : Whole text 6
+  between_quotes : Whole text kind.String
   between_quotes = record {
     formed = string_formed;
     stepped = λ σ. stepped σ text 0 (omega arith) string_formed family_quote
-        (step_stops σ text 0 (string_stops σ) string_kind refl (omega arith));
+        (step_stops σ text 0 (string_stops σ) string_kind (omega arith));
   }
 
 module _ (s : List ℕ) {i : ℕ} (scan : Scanned raw true s 1 i) (l : 0 < length s) where
-  pub string_whole : get_or s 0 0 ≡ byte "\"" → length s - i ≡ 1 → get_or s i 0 ≡ byte "\"" → Whole s 6
+  pub string_whole : get_or s 0 0 ≡ byte "\"" → length s - i ≡ 1 → get_or s i 0 ≡ byte "\"" → Whole s kind.String
   string_whole o h c =
       let w = slice 1 i s in
       let m : length s ≤ suc i = omega arith in
@@ -121,4 +121,4 @@ module _ (s : List ℕ) {i : ℕ} (scan : Scanned raw true s 1 i) (l : 0 < lengt
       let a : s ≡ get_or s 0 0 ∷ drop 1 s = drop-cons s 0 0 l in
       let d : drop 1 s ≡ w ++ drop i s = slice_split s 1 i scan.within (scanned_on scan) in
       let e : s ≡ byte "\"" ∷ (w ++ (byte "\"" ∷ [])) = cc (a, o, d, b, c, n) in
-      subst (λ (z : List ℕ). Whole z 6) (sym e) (between_quotes (scanned_each scan))
+      subst (λ (z : List ℕ). Whole z kind.String) (sym e) (between_quotes (scanned_each scan))

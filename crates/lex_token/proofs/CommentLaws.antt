@@ -4,6 +4,7 @@ use mathlib.Core.Path.{◌≡◌, refl, sym, ap, ◌∙◌}
 use mathlib.Core.Bool.{Bool, true, false}
 use mathlib.Core.List.{List, [], ◌∷◌}
 use mathlib.Core.Option.{none, some}
+use Rattle.std.specs.Prelude.{Option, Some}
 use native.Mathlib.Omega.{arith}
 use lib.Dec.{ltb}
 use lib.ListN.{length, get_or, drop, length-drop}
@@ -32,7 +33,6 @@ use Rattle.lex_comments.proofs.BlockLaws.{open_none, closed_some}
 use Rattle.lex_comments.specs.Confusing.{before, hidden_in}
 use Rattle.lex_comments.proofs.LineLaws.{line_ends_lem, line_hides_nothing, line_goes_on}
 use Rattle.lex_token.proofs.SliceLaws.{next_byte}
-use Rattle.wat.specs.Cases.{kind_number}
 use Rattle.lex_token.specs.declared.Step.{Step}
 use Rattle.lex_token.specs.Steps.{step_of}
 use Rattle.lex_token.proofs.StepLaws.{step_token}
@@ -140,26 +140,25 @@ module _ (σ : Settings) (s : List ℕ) (at : ℕ) where
           ∙ ap (λ (n : ℕ). comment σ kind.BlockComment n (drop at s)) (omega arith)
 
 -- what is answered for all of a comment is the token's
-module _ (σ : Settings) (s : List ℕ) (at end : ℕ) (r : Step) (b : Bool) where
+module _ (σ : Settings) (s : List ℕ) (at end : ℕ) (r : Option Step) (b : Bool) where
   pub block_whole :
-      ((k : TokenKind) → kind_number kind.BlockComment ≡ kind_number k → r ≡ step_of at (comment σ k (end - at) (drop at s)))
+      r ≡ step_of at (comment σ kind.BlockComment (end - at) (drop at s))
       → BlockEnd s (at + 2) end → (end ≡ 0 → ⊥) → b ≡ next (byte ";") (drop (at + 1) s) → b ≡ true
       → r ≡ step_of at (lex_by σ open_paren (drop at s))
-  block_whole f e z q n = f kind.BlockComment refl ∙ ap (step_of at) (sym (block_closed σ s at (sym q ∙ n) e z))
+  block_whole f e z q n = f ∙ ap (step_of at) (sym (block_closed σ s at (sym q ∙ n) e z))
 
   pub line_whole :
-      (j : ℕ)
-      → ((k : TokenKind) → kind_number kind.LineComment ≡ kind_number k → r ≡ step_of at (comment σ k (end - at) (drop at s)))
+      (j : ℕ) → r ≡ step_of at (comment σ kind.LineComment (end - at) (drop at s))
       → Scanned newline false s j end → Scanned line_stop false s at j → b ≡ next (byte ";") (drop (at + 1) s) → b ≡ true
       → r ≡ step_of at (lex_by σ semi (drop at s))
   line_whole j f p q e n =
-      f kind.LineComment refl ∙ ap (step_of at) (sym (semi_comment σ s at (sym e ∙ n) (line_goes_on s at j q end p)))
+      f ∙ ap (step_of at) (sym (semi_comment σ s at (sym e ∙ n) (line_goes_on s at j q end p)))
 
 -- a line that nothing stops but its end
 pub line_plain : (σ : Settings) (s : List ℕ) (at j : ℕ) → Scanned line_stop false s at j → next 0xE2 (drop j s) ≡ false
     → next (byte ";") (drop (at + 1) s) ≡ true → WellFormed (drop at s)
-    → record { kind = kind_number kind.LineComment; end = j } ≡ step_of at (lex_by σ semi (drop at s))
-line_plain σ s at j p q n g = step_token at (semi_plain σ s at n g p q) refl (omega (arith, p.end))
+    → Some (record { kind = kind.LineComment; end = j }) ≡ step_of at (lex_by σ semi (drop at s))
+line_plain σ s at j p q n g = step_token at (semi_plain σ s at n g p q) (omega (arith, p.end))
 
 pub ruleset comments = (comment_on, comment_off)
 

@@ -31,7 +31,6 @@ use Rattle.lex_numbers.proofs.KindLaws.{is_none, classified}
 use Rattle.lex_token.specs.Fronts.{lettered}
 use Rattle.lex_token.proofs.SliceLaws.{slice_one, slice_two}
 use Rattle.lex_token.proofs.KindLaws.{plain_id, plain_letter}
-use Rattle.wat.specs.Cases.{kind_number}
 
 -- ---- no number begins so
 
@@ -136,12 +135,13 @@ module _ (s : List ℕ) (at end : ℕ) where
         by_front (digits_alone _ _ d (digits_slice s end l (end - (at + 1)) (at + 1) (omega arith)
         (λ k g m. all k g (omega (arith, m)))))
 
-  pub front_digits : (r : ℕ) (b : Bool) → Scanned (digit false) true s (at + 1) r → end ≤ r → b ≡ digit false (get_or s at 0)
-      → b ≡ true → at < end → end ≤ length s → 11 ≡ kind_number kind_here
-  front_digits r b c n e d h l = sym (ap kind_number (digits h l (sym e ∙ d) c n))
+  pub front_digits : (r : ℕ) (b : Bool) (k : TokenKind) → Scanned (digit false) true s (at + 1) r → end ≤ r
+      → b ≡ digit false (get_or s at 0) → b ≡ true → at < end → end ≤ length s
+      → k ≡ number_kind (Integer Unsigned false false) → k ≡ kind_here
+  front_digits r b k c n e d h l z = z ∙ sym (digits h l (sym e ∙ d) c n)
 
   -- the number that the whole word is tells it
-  pub front_told : (n : Number) (k : ℕ) → KindOf (slice at end s) n → k ≡ kind_number (kind_of n) → k ≡ kind_number kind_here
-  front_told n k c e = e ∙ ap (λ (m : Number). kind_number (kind_of m)) (classified c)
+  pub front_told : (n : Number) (k : TokenKind) → KindOf (slice at end s) n → k ≡ kind_of n → k ≡ kind_here
+  front_told n k c e = e ∙ ap kind_of (classified c)
 
 pub ruleset fronts = (front_id, front_letter, front_two)

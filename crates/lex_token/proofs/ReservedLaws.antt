@@ -3,15 +3,16 @@ use Prim.Native.Nat.{ℕ, zero, suc, ◌+◌, ◌-◌, ◌<◌}
 use mathlib.Core.Path.{◌≡◌, refl, sym, ap, ◌∙◌, subst}
 use mathlib.Core.Bool.{Bool, true, false}
 use mathlib.Core.List.{List, [], ◌∷◌, ◌++◌, append-nil, append_assoc}
+use Rattle.std.specs.Prelude.{Some, None}
 use native.Mathlib.Omega.{arith}
 use native.Mathlib.Nat.{add-zero}
 use lib.ListN.{length, get_or, take, drop}
 use lib.Seq.{slice, length-slice, take-append-add}
 use Rattle.wat.specs.declared.TokenKind.{TokenKind}
+use Rattle.wat.specs.declared.TokenKind.TheVariants as kind
 use Rattle.wat.specs.declared.Fault.{Fault}
 use Rattle.wat.specs.Answers as answer
 use Rattle.wat.specs.Bytes.{byte, Each}
-use Rattle.wat.specs.Cases.{kind_number}
 use Rattle.wat.specs.declared.Settings.{Settings}
 use Rattle.wat.specs.Settings.{lenient}
 use Rattle.wat.specs.Utf8.{WellFormed}
@@ -29,13 +30,12 @@ use Rattle.wat_laws.proofs.SettingLaws.{str_lenient}
 use Rattle.wat_laws.proofs.RunKinds.{quoted_by, kind_one_string, kind_more}
 use Rattle.lex_numbers.proofs.SliceLaws.{at_byte}
 use Rattle.lex_classes.specs.Scan.{Scanned}
-use Rattle.lex_token.specs.Steps.{nowhere, step_of}
+use Rattle.lex_token.specs.Steps.{step_of}
 use Rattle.lex_token.proofs.SliceLaws.{slice_split, slice_take, slice_join}
 use Rattle.lex_token.proofs.StepLaws.{step_token, step_fault}
 use Rattle.lex_token.proofs.RunLaws.{walked, Ran, ran_more, ran_walk, scanned_each, ran_idchars, idchars_stop, Quoted}
 use Rattle.lex_token.proofs.LexLaws.{lex_family, Within, lex_within}
 use Rattle.lex_strings.specs.Parsing.{Ends, StringFails}
-use Rattle.lex_token.specs.declared.Step.{Step}
 use Rattle.lex_token.proofs.StringLaws.{parsed_closed, parsed_failed}
 use Rattle.lex_token.proofs.WalkLaws.{stops_of, fails_of}
 
@@ -43,12 +43,12 @@ use Rattle.lex_token.proofs.WalkLaws.{stops_of, fails_of}
 
 module _ (σ : Settings) (s : List ℕ) (at : ℕ) where
   pub step_stops :
-      {n m end : ℕ} {k : TokenKind}
-      → walked σ (drop at s) ≡ stops n → kind_of (take n (drop at s)) ≡ k → m ≡ kind_number k → end ≡ at + n
-      → record { kind = m; end = end } ≡ step_of at (lex_by σ run (drop at s))
-  step_stops {n} e q i l = step_token at (ap (run_by (drop at s)) e ∙ ap (λ (k : TokenKind). answer.Token k n) q) i l
+      {n end : ℕ} {k : TokenKind}
+      → walked σ (drop at s) ≡ stops n → kind_of (take n (drop at s)) ≡ k → end ≡ at + n
+      → Some (record { kind = k; end = end }) ≡ step_of at (lex_by σ run (drop at s))
+  step_stops {n} e q l = step_token at (ap (run_by (drop at s)) e ∙ ap (λ (k : TokenKind). answer.Token k n) q) l
 
-  pub step_fails : {f : Fault} → walked σ (drop at s) ≡ fails f → nowhere at ≡ step_of at (lex_by σ run (drop at s))
+  pub step_fails : {f : Fault} → walked σ (drop at s) ≡ fails f → None ≡ step_of at (lex_by σ run (drop at s))
   step_fails e = step_fault at (ap (run_by (drop at s)) e)
 
 -- ---- idchars alone
@@ -65,9 +65,10 @@ module _ (σ : Settings) (s : List ℕ) (at i : ℕ) (c : Scanned idchar true s 
       ∙ ap stops (add-zero (i - at))
 
   pub word_step :
-      {k : ℕ} → at < i → k ≡ kind_number (word_kind (classify (slice at i s)) (get_or s at 0))
-      → record { kind = k; end = i } ≡ step_of at (lex_by σ run (drop at s))
-  word_step l e = step_stops σ s at word_stops (ap kind_of (slice_take s at i c.within (omega arith)) ∙ is) e (omega arith)
+      {k : TokenKind} → at < i → k ≡ word_kind (classify (slice at i s)) (get_or s at 0)
+      → Some (record { kind = k; end = i }) ≡ step_of at (lex_by σ run (drop at s))
+  word_step l e =
+      step_stops σ s at word_stops (ap kind_of (slice_take s at i c.within (omega arith)) ∙ is ∙ sym e) (omega arith)
     where
       first : slice at i s ≡ get_or s at 0 ∷ slice (at + 1) i s
       first = at_byte s at i l c.within
@@ -90,7 +91,7 @@ word_some s at i c g q h f =
 pub word_fails :
     (σ : Settings) (s : List ℕ) (at i : ℕ) {f : Fault}
     → Scanned idchar true s at i → WellFormed (drop at s) → walked σ (drop i s) ≡ fails f
-    → nowhere at ≡ step_of at (lex_by σ run (drop at s))
+    → None ≡ step_of at (lex_by σ run (drop at s))
 word_fails σ s at i c g e = step_fails σ s at (ran_walk (ran_idchars c {σ = σ} g) ∙ ap (on (i - at)) e)
 
 -- ---- idchars, a string and what follows
@@ -107,7 +108,7 @@ module _ (σ : Settings) (s : List ℕ) (at i j : ℕ) (c : Scanned idchar true 
   ran : Ran σ s at j
   ran = ran_more (ran_idchars c g) d.ran
 
-  pub string_fails : {f : Fault} → walked σ (drop j s) ≡ fails f → nowhere at ≡ step_of at (lex_by σ run (drop at s))
+  pub string_fails : {f : Fault} → walked σ (drop j s) ≡ fails f → None ≡ step_of at (lex_by σ run (drop at s))
   string_fails e = step_fails σ s at (ran_walk ran ∙ ap (on (j - at)) e)
 
   -- the run's bytes
@@ -125,34 +126,34 @@ module _ (σ : Settings) (s : List ℕ) (at i j : ℕ) (c : Scanned idchar true 
     string_stops = ran_walk ran ∙ ap (on (j - at)) e
 
     pub string_step :
-        {k : ℕ} → n ≡ 0 → k ≡ kind_number (quoted_by (slice at i s))
-        → record { kind = k; end = j } ≡ step_of at (lex_by σ run (drop at s))
+        {k : TokenKind} → n ≡ 0 → k ≡ quoted_by (slice at i s)
+        → Some (record { kind = k; end = j }) ≡ step_of at (lex_by σ run (drop at s))
     string_step z q =
         let is : kind_of (take (j - at + n) (drop at s)) ≡ quoted_by (slice at i s) =
         ap kind_of (bytes_of n ∙ ap (λ (m : ℕ). slice at i s ++ (slice i j s ++ take m (drop j s))) z
         ∙ ap (λ (y : List ℕ). slice at i s ++ y) (append-nil (slice i j s)))
         ∙ kind_one_string (scanned_each c) (str_lenient d.is) in
-        step_stops σ s at string_stops is q (omega (arith, ran.onward))
+        step_stops σ s at string_stops (is ∙ sym q) (omega (arith, ran.onward))
 
-    pub more_step : {end : ℕ} → 0 < n → end ≡ j + n → record { kind = 10; end = end } ≡ step_of at (lex_by σ run (drop at s))
+    pub more_step : {end : ℕ} → 0 < n → end ≡ j + n
+        → Some (record { kind = kind.Reserved; end = end }) ≡ step_of at (lex_by σ run (drop at s))
     more_step h l =
         let more = kind_more (take n (drop j s)) (scanned_each c) (str_lenient d.is) (λ z. rest_some σ n (drop j s) e h z) in
-        step_stops σ s at string_stops (ap kind_of (bytes_of n) ∙ more) refl (omega (arith, ran.onward))
+        step_stops σ s at string_stops (ap kind_of (bytes_of n) ∙ more) (omega (arith, ran.onward))
 
 -- by what the code asks: the idchars from `at` to i, whether a quotation mark follows, the string and the run behind it
 module _ (σ : Settings) (s : List ℕ) (at i : ℕ) (b : Bool) (c : Scanned idchar true s at i)
     (q : b ≡ next (byte "\"") (drop i s)) (g : WellFormed (drop at s)) where
   pub word_here :
-      (k : ℕ) → k ≡ kind_number (word_kind (classify (slice at i s)) (get_or s at 0)) → b ≡ false → at < length s
-      → family (get_or s at 0) ≡ run → record { kind = k; end = i } ≡ step_of at (lex_by σ run (drop at s))
+      (k : TokenKind) → k ≡ word_kind (classify (slice at i s)) (get_or s at 0) → b ≡ false → at < length s
+      → family (get_or s at 0) ≡ run → Some (record { kind = k; end = i }) ≡ step_of at (lex_by σ run (drop at s))
   word_here k e n h f =
       let u = sym q ∙ n in
       word_step σ s at i c g u (word_some s at i c g u h f) e
 
   module _ (n : b ≡ true) where
-    pub string_bad : (r : Step) (f : Fault) → r ≡ nowhere at → StringFails σ s (i + 1) f
-        → r ≡ step_of at (lex_by σ run (drop at s))
-    string_bad r f e x = e ∙ word_fails σ s at i c g (parsed_failed s i (sym q ∙ n) σ x refl).1
+    pub string_bad : (f : Fault) → StringFails σ s (i + 1) f → None ≡ step_of at (lex_by σ run (drop at s))
+    string_bad f x = word_fails σ s at i c g (parsed_failed s i (sym q ∙ n) σ x refl).1
 
     module _ (j : ℕ) (x : Ends σ s (i + 1) j) where
       here : Quoted σ s i j
@@ -163,17 +164,17 @@ module _ (σ : Settings) (s : List ℕ) (at i : ℕ) (b : Bool) (c : Scanned idc
 
       -- where the run behind the string ends as z
       module _ (z : RunEnd) (w : z ≡ on j (walked σ (drop j s))) where
-        pub rest_bad : (r : Step) (f : Fault) → r ≡ nowhere at → z ≡ fails f → r ≡ step_of at (lex_by σ run (drop at s))
-        rest_bad r f e y = e ∙ string_fails σ s at i j c g here (fails_of j (walked σ (drop j s)) (sym w ∙ y)).1
+        pub rest_bad : (f : Fault) → z ≡ fails f → None ≡ step_of at (lex_by σ run (drop at s))
+        rest_bad f y = string_fails σ s at i j c g here (fails_of j (walked σ (drop j s)) (sym w ∙ y)).1
 
-        pub rest_none : (k m : ℕ) → z ≡ stops k → k ≡ j → m ≡ kind_number (quoted_by (slice at i s))
-            → record { kind = m; end = j } ≡ step_of at (lex_by σ run (drop at s))
+        pub rest_none : (k : ℕ) (m : TokenKind) → z ≡ stops k → k ≡ j → m ≡ quoted_by (slice at i s)
+            → Some (record { kind = m; end = j }) ≡ step_of at (lex_by σ run (drop at s))
         rest_none k m y e l =
             let p = stops_of j (walked σ (drop j s)) (sym w ∙ y) in
             string_step σ s at i j c g here p.0 p.1 (omega (arith, p.2)) l
 
         pub rest_more : (k : ℕ) → z ≡ stops k → (k ≡ j → ⊥)
-            → record { kind = 10; end = k } ≡ step_of at (lex_by σ run (drop at s))
+            → Some (record { kind = kind.Reserved; end = k }) ≡ step_of at (lex_by σ run (drop at s))
         rest_more k y e =
             let p = stops_of j (walked σ (drop j s)) (sym w ∙ y) in
             more_step σ s at i j c g here p.0 p.1 (omega (arith, p.2)) p.2

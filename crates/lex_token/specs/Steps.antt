@@ -1,32 +1,27 @@
 -- The model's answers as the code gives them, counted from the text's start.
-use Rattle.std.specs.Prelude.{ℕ, ◌+◌, ◌≤◌, ◌<◌, ◌≡◌, List, length, drop, Some, None, Ok, Err}
+use Rattle.std.specs.Prelude.{ℕ, ◌+◌, ◌≤◌, ◌<◌, ◌≡◌, List, length, drop, Option, Some, None, Ok, Err}
 use Rattle.wat.specs.declared.Fault.{Fault}
 use Rattle.wat.specs.Answers.{Answer}
 use Rattle.wat.specs.Answers as answer
-use Rattle.wat.specs.Cases.{kind_number}
 use Rattle.wat.specs.declared.Settings.{Settings}
 use Rattle.wat.specs.Faults.{shift}
 use Rattle.wat.specs.LexModel.{lex}
 use Rattle.lex_token.specs.declared.Step.{Step}
 
-abbrev pub nowhere : ℕ → Step
-nowhere at = record { kind = 0; end = at }
-
-abbrev pub step_of : ℕ → Answer → Step
-step_of at (Ok None) = nowhere at
-step_of at (Ok (Some l)) = record { kind = kind_number l.kind; end = at + l.len }
-step_of at (Err f) = nowhere at
+abbrev pub step_of : ℕ → Answer → Option Step
+step_of at (Ok None) = None
+step_of at (Ok (Some l)) = Some (record { kind = l.kind; end = at + l.len })
+step_of at (Err f) = None
 
 -- the step is that of the answer for what is left from a place on
-pub record Stepped (σ : Settings) (s : List ℕ) (at : ℕ) (r : Step) : Type 0 where
+pub record Stepped (σ : Settings) (s : List ℕ) (at : ℕ) (r : Option Step) : Type 0 where
   pub same : r ≡ step_of at (lex σ (drop at s))
-  pub onward : (r.kind ≡ 0 → ⊥) → at < r.end
-  pub within : r.end ≤ length s
-  pub small : r.kind < 4096
+  pub onward : (x : Step) → r ≡ Some x → at < x.end
+  pub within : (x : Step) → r ≡ Some x → x.end ≤ length s
 
--- a step that is known without the settings is that of the answer, whatever they are; 0 says that it is not known
-pub record Quick (s : List ℕ) (at : ℕ) (r : Step) : Type 0 where
-  pub known : (r.kind ≡ 0 → ⊥) → (σ : Settings) → Stepped σ s at r
+-- a step that is known without the settings is that of the answer, whatever they are
+pub record Quick (s : List ℕ) (at : ℕ) (r : Option Step) : Type 0 where
+  pub known : (x : Step) → r ≡ Some x → (σ : Settings) → Stepped σ s at r
 
 -- where the answer is a fault, f is that fault, counted from the text's start
 pub record Faults (at : ℕ) (a : Answer) (f : Fault) : Type 0 where

@@ -1,7 +1,8 @@
 -- A token is there if the step at its offset has its kind's number and its length. Assumes nothing.
 use Prim.Native.Nat.{ℕ, ◌+◌, ◌-◌, ◌≤◌}
-use mathlib.Core.Path.{◌≡◌, sym, ap, subst, ◌∙◌}
+use mathlib.Core.Path.{◌≡◌, refl, sym, ap, subst, ◌∙◌}
 use mathlib.Core.List.{List}
+use Rattle.std.specs.Prelude.{Option, Some, None}
 use native.Mathlib.Omega.{arith}
 use lib.ListN.{length, take, drop, length-drop, drop_of_length-le}
 use lib.Seq.{slice}
@@ -10,23 +11,22 @@ use Rattle.wat_values.specs.declared.Reading.{Reading}
 use Rattle.wat.specs.Answers as answer
 use Rattle.wat.specs.declared.Refusal.TheVariants.{NotThatToken}
 use Rattle.wat.specs.Settings.{lenient}
-use Rattle.wat.specs.Cases.{kind_number}
 use Rattle.wat.specs.Tokens.{Tok}
 use Rattle.wat.specs.Lexing.{Lexed}
 use Rattle.wat.specs.LexModel.{lex}
 use Rattle.wat.specs.Calls.{Stands, most}
 use Rattle.wat_values.specs.Values.{Reader, Takes, Value, Reads}
 use Rattle.wat_values.specs.Reading.{There, no_place, Missing, own, Handed, Read}
+use Rattle.wat.proofs.Basics.{differ}
 use Rattle.wat.proofs.Unique.{token_longest, nil_token}
 use Rattle.wat_laws.proofs.Total.{lexed}
 use Rattle.wat_laws.proofs.Answers.{lexed_is}
 use Rattle.wat_laws.proofs.Divisions.{token_size}
 use Rattle.wat_values.proofs.SomeValue as one
 use Rattle.wat_values.proofs.ReadingLaws.{is_token}
-use Rattle.wat.proofs.KindNumbers.{kind_some, injective}
 use Rattle.lex_token.specs.declared.Step.{Step}
 use Rattle.lex_token.specs.Steps.{step_of, Stepped}
-use Rattle.lex_token.specs.Alone.{Alone}
+use Rattle.lex_token.specs.Alone.{Whole, Alone}
 use Rattle.lex_token.proofs.SliceLaws.{slice_take}
 use Rattle.lex_token.proofs.StepLaws.{token_of}
 
@@ -37,38 +37,43 @@ module _ (text : List ℕ) (token : Token) (s : Stands text token.offset) where
       let h : length text ≤ token.offset = omega arith in
       nil_token (token_longest t.lexed) (drop_of_length-le text h))
 
-  module _ {r : Step} (q : Stepped lenient text token.offset r) where
+  module _ {r : Option Step} (q : Stepped lenient text token.offset r) where
     said : Lexed lenient (drop token.offset text) (answer.Token token.kind token.len)
-        → r ≡ record { kind = kind_number token.kind; end = token.offset + token.len }
+        → r ≡ Some (record { kind = token.kind; end = token.offset + token.len })
     said l = q.same ∙ ap (step_of token.offset) (sym (lexed_is s.between l))
 
-    pub other_kind_there : (r.kind ≡ kind_number token.kind → ⊥) → Missing text token NotThatToken no_place
-    other_kind_there n = Missing.not_there s (λ t. n (ap (λ (x : Step). x.kind) (said t.lexed)))
+    pub no_step_there : r ≡ None → Missing text token NotThatToken no_place
+    no_step_there e = Missing.not_there s (λ t. let y = sym e ∙ said t.lexed in differ (cc))
 
-    pub other_length_there : (r.end - token.offset ≡ token.len → ⊥) → Missing text token NotThatToken no_place
-    other_length_there n = Missing.not_there s (λ t. let e = ap (λ (x : Step). x.end) (said t.lexed) in n (omega arith))
+    module _ {x : Step} (z : r ≡ Some x) where
+      it : Lexed lenient (drop token.offset text) (answer.Token token.kind token.len)
+          → x ≡ record { kind = token.kind; end = token.offset + token.len }
+      it l = let y = sym z ∙ said l in cc
 
-    some : r.kind ≡ kind_number token.kind → r.kind ≡ 0 → ⊥
-    some e z = kind_some token.kind (sym e ∙ z)
+      pub other_kind_there : {k : TokenKind} → k ≡ x.kind → (k ≡ token.kind → ⊥) → Missing text token NotThatToken no_place
+      other_kind_there e n = Missing.not_there s (λ t. n (e ∙ ap (λ (x : Step). x.kind) (it t.lexed)))
 
-    pub step_onward : r.kind ≡ kind_number token.kind → token.offset ≤ r.end
-    step_onward e = let h = q.onward (some e) in omega arith
+      pub other_length_there : (x.end - token.offset ≡ token.len → ⊥) → Missing text token NotThatToken no_place
+      other_length_there n =
+          Missing.not_there s (λ t. let e = ap (λ (x : Step). x.end) (it t.lexed) in n (omega arith))
 
-    pub there : r.kind ≡ kind_number token.kind → r.end - token.offset ≡ token.len → There text token
-    there e l =
-        let t = token_of q (some e) in
-        let k : t.0 ≡ token.kind = injective t.0 token.kind (sym t.3 ∙ e) in
-        let n : t.1 ≡ token.len = omega (arith, t.4) in
-        let a : lex lenient (drop token.offset text) ≡ answer.Token token.kind token.len = cc t.2 in
-        record { stands = s; lexed = subst (Lexed lenient (drop token.offset text)) a (lexed lenient s.between) }
+      pub step_onward : token.offset ≤ x.end
+      step_onward = let h = q.onward x z in omega arith
+
+      pub there : x.kind ≡ token.kind → x.end - token.offset ≡ token.len → There text token
+      there k l =
+          let t = token_of q z in
+          let n : t.0 ≡ token.len = omega (arith, t.2) in
+          let a : lex lenient (drop token.offset text) ≡ answer.Token token.kind token.len = cc t.1 in
+          record { stands = s; lexed = subst (Lexed lenient (drop token.offset text)) a (lexed lenient s.between) }
 
 -- the whole of a text, and a word or a plain string, is there
-pub alone_there : (text : List ℕ) (token : Token) {n : ℕ} → token.offset ≡ 0 → length text ≤ most
-    → token.len ≡ length text → Alone text n → n ≡ kind_number token.kind → There text token
-alone_there text token {n} o m l w e =
-    let a = w (λ z. kind_some token.kind (sym e ∙ z)) in
+pub alone_there : (text : List ℕ) (token : Token) {r : Option TokenKind} {k : TokenKind} → token.offset ≡ 0 → length text ≤ most
+    → token.len ≡ length text → Alone text r → r ≡ Some k → k ≡ token.kind → There text token
+alone_there text token {r} {k} o m l w e z =
+    let a : Whole text k = subst (Alone text) e w in
     let s : Stands text 0 = record { sound = record { short = m; formed = a.formed }; within = omega arith; between = a.formed } in
-    there text token (rw o s) {r = record { kind = n; end = length text }} (rw o (a.stepped lenient)) e (omega arith)
+    there text token (rw o s) (rw o (a.stepped lenient)) {x = record { kind = k; end = length text }} refl z (omega arith)
 
 -- ---- a token that is there
 
@@ -104,4 +109,4 @@ module _ {text : List ℕ} {token : Token} (t : There text token) where
       → Read reader text token buffer r after
   hands_reads e takes h = let v = one.reads (there_slice e) takes in slice_reads e v.1 (h v.0 v.1)
 
-pub ruleset presents = (Missing.rejected, none_there, other_kind_there, other_length_there, there)
+pub ruleset presents = (Missing.rejected, none_there, no_step_there, other_length_there)

@@ -46,8 +46,10 @@ fn alone(text: &[u8], token: Token, t: &Table) -> bool
     if token.len as usize != n {
         return false;
     }
-    let kind = token.kind;
-    lex_token::token_alone(text, t) == codes::kind_number(kind)
+    match lex_token::token_alone(text, t) {
+        Some(kind) => kind.kind() == token.kind,
+        None => false,
+    }
 }
 
 // 30, at an offset that stands: lexing there, leniently, gives another kind or another length, or nothing.
@@ -63,9 +65,13 @@ fn present_at(text: &[u8], token: Token, t: &Table) -> TokenCheck
             place: NO_PLACE,
         };
     }
-    let step = lex_token::parse_kind(text, offset, Settings::LENIENT, t);
-    let kind = token.kind;
-    if step.kind != codes::kind_number(kind) {
+    let Some(step) = lex_token::parse_kind(text, offset, Settings::LENIENT, t) else {
+        return TokenCheck::Refused {
+            refusal: Refusal::NotThatToken,
+            place: NO_PLACE,
+        };
+    };
+    if step.kind.kind() != token.kind {
         return TokenCheck::Refused {
             refusal: Refusal::NotThatToken,
             place: NO_PLACE,

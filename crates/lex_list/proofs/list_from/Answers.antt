@@ -1,8 +1,7 @@
 use Rattle.lex_list.proofs.GoesLaws.{goes_refused}
 use Rattle.lex_list.proofs.list_from.Goals as goal
 
-pub returns-then-step-eq0 : goal.returns-then-step-eq0
-returns-then-step-eq0 c =
-    goes_refused c.requires c.loop-at.invariant.goes c.step_at-step.ensures c.loop-at-test.true c.if-n-budget.false
-    c.if-step-eq0.true
+pub returns-in_default : goal.returns-in_default
+returns-in_default c =
+    goes_refused c.requires c.loop-at.invariant.goes c.step_at.ensures c.loop-at-test.true c.if-n-budget.false c.in_default.is
     c.fault_at-fault.ensures

@@ -19,7 +19,7 @@ returns-in-Failed c = search (rules, string_bad)
 pub returns-in-Fails : goal.returns-in-Fails
 returns-in-Fails c =
     rest_bad _ _ _ _ _ c.idchars_end-i.ensures c.is_at.ensures c.requires.well_formed c.if-not-is_at.false _ c.in-Closed.ensures _
-    c.parse_run.ensures _ _ c.nothing-in-Fails.ensures c.in-Fails.is
+    c.parse_run.ensures _ c.in-Fails.is
 
 pub returns-else-k-j : goal.returns-else-k-j
 returns-else-k-j c = search (rules, rest_more)

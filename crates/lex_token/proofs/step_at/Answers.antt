@@ -1,6 +1,5 @@
-use Rattle.std.proofs.Common.{rules}
 use Rattle.lex_token.proofs.QuickLaws.{quick_known}
 use Rattle.lex_token.proofs.step_at.Goals as goal
 
-pub returns-then-step-ne0 : goal.returns-then-step-ne0
-returns-then-step-ne0 c = search (rules, quick_known)
+pub returns-in-Some : goal.returns-in-Some
+returns-in-Some c = quick_known _ _ _ _ _ c.quick.ensures c.in-Some.is

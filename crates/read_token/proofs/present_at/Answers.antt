@@ -1,0 +1,11 @@
+use Rattle.std.proofs.Common.{sym, ◌∙◌, arith, rules}
+use Rattle.read_token.proofs.PresentLaws.{other_kind_there, there}
+use Rattle.read_token.proofs.present_at.Goals as goal
+
+pub returns-then-ne : goal.returns-then-ne
+returns-then-ne c =
+    other_kind_there _ _ c.requires.stands c.parse_kind.ensures c.in-Some.is c.kind.ensures (search rules)
+
+pub returns : goal.returns
+returns c =
+    there _ _ c.requires.stands c.parse_kind.ensures c.in-Some.is (sym c.kind.ensures ∙ (search rules)) (omega arith)
