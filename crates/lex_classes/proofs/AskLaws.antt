@@ -1,39 +1,19 @@
--- What the answers of a class and the arms of a `match` show of wat's tests. Assumes nothing.
+-- What a test of a range of numbers shows, and the values of hexadecimal digits. Assumes nothing.
 use Prim.Native.Nat.{ℕ, zero, suc, ◌+◌, ◌-◌, ◌*◌, ◌/◌, ◌%◌, ◌≤◌, ◌<◌}
 use mathlib.Core.Path.{◌≡◌, refl, ap, ◌∙◌}
 use mathlib.Core.Logic.{⊎_elim}
-use mathlib.Core.Bool.{Bool, true, false, ◌||◌, or_assoc, or-false}
+use mathlib.Core.Bool.{Bool, true, false}
 use mathlib.Core.Option.{none, some}
-use mathlib.Core.List.{List, [], ◌∷◌}
 use native.Mathlib.Omega.{arith}
 use lib.Dec.{eqb}
-use borrow.Author.Tests.{eqb-true, eqb-false, ne_eqb, lt-ltb, le-ltb, le-leb, lt-leb}
-use Rattle.wat.specs.Bytes.{byte, between, has}
-use Rattle.wat.specs.Chars.{control, space}
-use Rattle.wat.specs.declared.Family.TheVariants.{Run as run, Other as other}
+use borrow.Author.Tests.{eqb-true, eqb-false, lt-ltb}
+use Rattle.wat.specs.Bytes.{byte, between}
 use Rattle.wat.specs.Numbers.{digit}
 use Rattle.wat.specs.StringModel.{hex_of}
 use Rattle.wat.proofs.Basics.{between_in, between_true, or_split, or_no}
 use Rattle.wat.specs.Utf8Model.{pick}
 use Rattle.wat.proofs.Utf8Rows.{pick_both}
 use Rattle.lex_classes.specs.Ask.{digit_of}
-use Rattle.lex_classes.specs.Table.{begins_by}
-
--- ---- among some numbers, or none of them
-
-abbrev pub Apart : ℕ → List ℕ → Type 0
-Apart x [] = Unit {0}
-Apart x (y ∷ ys) = (y ≡ x → ⊥) × Apart x ys
-
-pub has_not : (x : ℕ) (ys : List ℕ) → Apart x ys → has x ys ≡ false
-unfolding has
-has_not x [] a = refl
-has_not x (y ∷ ys) a = rw (ne_eqb y x a.0, has_not x ys a.1)
-
--- white space, one comparison after the other
-pub space_or : (b : ℕ) → space b ≡ ((eqb (byte " ") b || eqb (byte "\t") b) || eqb (byte "\n") b) || eqb (byte "\r") b
-unfolding space has
-space_or b = rw (or-false, or_assoc, or_assoc)
 
 -- n numbers from lo on all pass a test
 abbrev pub all_pass : (ℕ → Bool) → ℕ → ℕ → Bool
@@ -47,23 +27,6 @@ in_range test lo (suc n) x e l h = go (eqb lo x) refl (in_range test (suc lo) n 
     go : (b : Bool) → eqb lo x ≡ b → (suc lo ≤ x → x < suc lo + n → test x ≡ true) → test x ≡ true
     go true p ih = rw (eqb-true lo x p) at (pick_both (test lo) _ e).0
     go false p ih = let d = eqb-false lo x p in ih (omega arith) (omega arith)
-
--- ---- what a byte of a class begins
-
-pub begins_run : (n : ℕ) → 8 ≤ n → begins_by n ≡ run
-begins_run n h = rw (le-leb 8 n h, begins_by)
-
-pub begins_other : (n : ℕ) → n < 8 → (n ≡ 1 → ⊥) → (n ≡ 4 → ⊥) → (n ≡ 5 → ⊥) → (n ≡ 6 → ⊥)
-    → (n ≡ 7 → ⊥) → (n ≡ 3 → ⊥) → begins_by n ≡ other
-begins_other n h a b c d f g =
-    rw (lt-leb 8 n h, ne_eqb n 1 a, ne_eqb n 4 b, ne_eqb n 5 c, ne_eqb n 6 d, ne_eqb n 7 f, ne_eqb n 3 g, begins_by)
-
--- ---- control characters
-
--- none is beyond a byte
-pub control_far : (c : ℕ) → 0xff < c → control c ≡ false
-unfolding control
-control_far c h = rw (le-ltb c 0x20 (omega arith), ne_eqb c 0x7F (omega arith))
 
 -- ---- hexadecimal digits
 

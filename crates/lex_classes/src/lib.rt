@@ -3,14 +3,14 @@
 
 #![tactic(auto)]
 
-ghost use Rattle.std.specs.Prelude.{◌≡◌, true, false, not, ◌+◌, ◌*◌, ◌/◌, ◌%◌, min, ◌≤◌, length, get_or};
+ghost use Rattle.std.specs.Prelude.{◌≡◌, ℕ, Bool, true, false, ◌+◌, ◌*◌, ◌/◌, ◌%◌, ◌^◌, ◌≤◌, ◌<◌, length};
 ghost use Rattle.wat.specs.Numbers.{digit};
 ghost use Rattle.wat.specs.Chars.{idchar, space, letter, is_scalar, control, confusing};
 ghost use Rattle.wat.specs.LexModel.{family};
 ghost use Rattle.wat.specs.StringModel.{hex_of};
 ghost use Rattle.lex_classes.specs.Table.{Classes};
 ghost use Rattle.lex_classes.specs.Ask.{digit_of, raw, confusing_bytes};
-ghost use Rattle.lex_classes.specs.Scan.{Scanned, First, placed};
+ghost use Rattle.lex_classes.specs.Scan.{Scanned, First, Finds, alike};
 
 use wat::Family;
 
@@ -224,88 +224,118 @@ fn is_space(b: u8) -> bool
     (b' ' == b) | (b'\t' == b) | (b'\n' == b) | (b'\r' == b)
 }
 
-// k for a place that passes a test, and n for one that does not.
-#[tactic(auto, unfolding(crate::specs::Scan::placed))]
-fn place_if(passes: bool, n: u8, k: u8) -> u8
-    ensures { result ≡ placed passes n k }
+// The first of N places that passes a test, or N. No branch depends on the test, and LLVM makes vector code of it.
+pub fn first_of<const N: usize, F: Fn(usize) -> bool>(passes: F) -> usize
+    requires fits { N ≤ 255 }
+    requires callable { (k : ℕ) → k < N → F.pre passes k }
+    ensures { (f : ℕ → Bool) (i : ℕ)
+        → ((k : ℕ) (r : Bool) → F.post passes k r → r ≡ f (i + k))
+        → First f i N result }
 {
-    if passes { k } else { n }
-}
-
-// The lesser of that and m. A loop over the n places of a block, from m = n on, leaves in m the first that passes: no
-// branch depends on the test, and LLVM makes vector code of it.
-pub fn lesser(passes: bool, n: u8, k: u8, m: u8) -> u8
-    ensures { result ≡ min (placed passes n k) m }
-{
-    let v = place_if(passes, n, k);
-    if v < m {
-        return v;
-    }
-    m
-}
-
-// How many of the 32 bytes from i on come before the first that is no white space.
-fn spaces32(s: &[u8], i: usize) -> usize
-    requires { i + 32 ≤ length s.now }
-    ensures { First (λ k. not (space (get_or s.now k 0))) i 32 result }
-{
-    let mut m: u8 = 32;
-    let mut k: usize = 0;
-    while k < 32 {
-        m = lesser(!is_space(s[i + k]), 32, k as u8, m);
-        k += 1;
+    let mut m: u8 = N as u8;
+    for k in 0..N {
+        m = m.min(if passes(k) { k as u8 } else { N as u8 });
     }
     m as usize
 }
 
-// As `skip_ws`, where much white space is to be expected: 32 bytes at a time.
+// The place behind the bytes from `at` on that pass a test. A test that answers the contrary of what `Scanned` asks of
+// the bytes is one of `alike` with false.
 #[tactic(auto, using(crate::proofs::ScanLaws::scans))]
-fn long_ws(s: &[u8], at: usize, t: &Table) -> usize
+pub fn scan<F: Fn(u8) -> bool>(s: &[u8], at: usize, passes: F) -> usize
     requires at_in_bounds { at ≤ length s.now }
-    ensures { Scanned space true s.now at result }
+    requires callable { F.IsAlwaysCallable passes }
+    ensures { (test : ℕ → Bool) (b : Bool)
+        → ((x : ℕ) (r : Bool) → F.post passes x r → r ≡ alike b (test x))
+        → Scanned test b s.now at result }
 {
-    let mut i = at;
-    while 32 <= s.len() - i {
-        let n = spaces32(s, i);
-        if n < 32 {
-            return i + n;
-        }
-        i += 32;
-    }
-    while i < s.len() {
-        if !t.is_ws(s[i]) {
+    for i in at..s.len() {
+        if !passes(s[i]) {
             return i;
         }
-        i += 1;
     }
-    i
+    s.len()
+}
+
+// The first of the eight places from `at` on that passes a test, if one does. LLVM unrolls a loop of so few steps, and
+// each then has a branch of its own for the processor to foresee. By std's `find` over `at..at + 8` ordinary WAT takes
+// 1.09 of the instructions, and white space of 6 to 40 bytes 1.17.
+pub fn near<F: Fn(usize) -> bool>(at: usize, passes: F) -> Option<usize>
+    requires fits { at + 8 < 2 ^ 64 }
+    requires callable { (k : ℕ) → at ≤ k → k < at + 8 → F.pre passes k }
+    ensures { (f : ℕ → Bool)
+        → ((k : ℕ) (r : Bool) → F.post passes k r → r ≡ f k)
+        → Finds f at (at + 8) result }
+{
+    for i in at..at + 8 {
+        if passes(i) {
+            return Some(i);
+        }
+    }
+    None
+}
+
+// The first place from `at` on and before `to` that passes a test, if one does: N places at a time, as long as as many
+// are left before `end`, so that those from `to` on may be tested too.
+pub fn find<const N: usize, F: Fn(usize) -> bool>(
+    at: usize,
+    to: usize,
+    end: usize,
+    passes: F,
+) -> Option<usize>
+    requires fits { (1 ≤ N) × (N ≤ 255) }
+    requires in_order { to ≤ end }
+    requires callable { (k : ℕ) → at ≤ k → k < end → F.pre passes k }
+    ensures { (f : ℕ → Bool)
+        → ((k : ℕ) (r : Bool) → F.post passes k r → r ≡ f k)
+        → Finds f at to result }
+{
+    let mut i = at;
+    while i < to {
+        if end - i < N {
+            for k in i..to {
+                if passes(k) {
+                    return Some(k);
+                }
+            }
+            return None;
+        }
+        let n = first_of::<N, _>(|k| passes(i + k));
+        if n < N {
+            if i + n < to {
+                return Some(i + n);
+            }
+            return None;
+        }
+        i += N;
+    }
+    None
 }
 
 // https://webassembly.github.io/spec/core/text/lexical.html#white-space
 // The place behind the white space from `at` on: four bytes that stand in UTF-8 for themselves alone. Most runs are
-// short: the first eight bytes are looked at one by one, in a loop of fixed length, which LLVM unrolls, so that each
-// step has a branch of its own for the processor to foresee.
-#[tactic(auto, using(crate::proofs::ScanLaws::scans))]
+// short: the first eight bytes are looked at one by one, and where there are more, 32 at a time.
 pub fn skip_ws(s: &[u8], at: usize, t: &Table) -> usize
     requires at_in_bounds { at ≤ length s.now }
     ensures { Scanned space true s.now at result }
 {
     if s.len() - at < 8 {
-        return long_ws(s, at, t);
+        return long_ws(s, at);
     }
-    let near = at + 8;
-    let mut i = at;
-    while i < near {
-        if !t.is_ws(s[i]) {
-            return i;
-        }
-        i += 1;
+    if let Some(i) = near(at, |i| !t.is_ws(s[i])) {
+        return i;
     }
-    long_ws(s, i, t)
+    long_ws(s, at + 8)
+}
+
+fn long_ws(s: &[u8], at: usize) -> usize
+    requires at_in_bounds { at ≤ length s.now }
+    ensures { Scanned space true s.now at result }
+{
+    find::<32, _>(at, s.len(), s.len(), |k| !is_space(s[k])).unwrap_or(s.len())
 }
 
 // The place behind the idchars from `at` on: the first eight bytes as in `skip_ws`.
-#[tactic(auto, using(crate::proofs::ScanLaws::scans))]
 pub fn idchars_end(s: &[u8], at: usize, t: &Table) -> usize
     requires at_in_bounds { at ≤ length s.now }
     ensures { Scanned idchar true s.now at result }
@@ -313,61 +343,32 @@ pub fn idchars_end(s: &[u8], at: usize, t: &Table) -> usize
     if s.len() - at < 8 {
         return long_word(s, at, t);
     }
-    let near = at + 8;
-    let mut i = at;
-    while i < near {
-        if !t.is_idchar(s[i]) {
-            return i;
-        }
-        i += 1;
+    if let Some(i) = near(at, |i| !t.is_idchar(s[i])) {
+        return i;
     }
-    long_word(s, i, t)
+    long_word(s, at + 8, t)
 }
 
 // As `idchars_end`, for a word of any length.
-#[tactic(auto, using(crate::proofs::ScanLaws::scans))]
 fn long_word(s: &[u8], at: usize, t: &Table) -> usize
     requires at_in_bounds { at ≤ length s.now }
     ensures { Scanned idchar true s.now at result }
 {
-    let mut i = at;
-    while i < s.len() {
-        if !t.is_idchar(s[i]) {
-            return i;
-        }
-        i += 1;
-    }
-    i
+    scan(s, at, |b| t.is_idchar(b))
 }
 
 // The place behind the decimal digits from `at` on.
-#[tactic(auto, using(crate::proofs::ScanLaws::scans))]
 pub fn digits_end(s: &[u8], at: usize, t: &Table) -> usize
     requires at_in_bounds { at ≤ length s.now }
     ensures { Scanned (digit false) true s.now at result }
 {
-    let mut i = at;
-    while i < s.len() {
-        if !t.is_digit(false, s[i]) {
-            return i;
-        }
-        i += 1;
-    }
-    i
+    scan(s, at, |b| t.is_digit(false, b))
 }
 
 // The place behind the raw characters from `at` on, of those that are ASCII.
-#[tactic(auto, using(crate::proofs::ScanLaws::scans))]
 pub fn ascii_raw_end(s: &[u8], at: usize, t: &Table) -> usize
     requires at_in_bounds { at ≤ length s.now }
     ensures { Scanned raw true s.now at result }
 {
-    let mut i = at;
-    while i < s.len() {
-        if !t.is_raw(s[i]) {
-            return i;
-        }
-        i += 1;
-    }
-    i
+    scan(s, at, |b| t.is_raw(b))
 }

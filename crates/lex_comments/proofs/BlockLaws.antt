@@ -16,9 +16,9 @@ use Rattle.wat.specs.CommentModel.{fresh, further, opens, ends}
 use Rattle.wat.proofs.Blocks.{further_further}
 use Rattle.wat.proofs.Basics.{or_split, or_no, below}
 use Rattle.lex_classes.proofs.SearchLaws.{clear_carries}
-use Rattle.lex_comments.specs.Find.{Without, Sought}
+use Rattle.lex_classes.specs.Scan.{Clear, Earliest}
 use Rattle.lex_comments.specs.Ends.{mark, mark_at, end_of, BlockEnd}
-use Rattle.lex_comments.proofs.FindLaws.{front, byte_behind, without_then, finds}
+use Rattle.lex_comments.proofs.FindLaws.{front, byte_behind}
 
 -- ---- marks
 
@@ -54,10 +54,8 @@ module _ (s : List ℕ) (k : ℕ) where
       go false e = e
 
 -- no mark stands where less than two bytes are left
-pub without_end : (s : List ℕ) (at i : ℕ) → Without mark_at s at i → length s < i + 2 → Without mark_at s at (length s)
-without_end s at i p h =
-    without_then mark_at s at i p (length s)
-    (record { on = p.within; within = omega arith; clear = record { none = λ k a l. no_mark s k (omega (arith, a)) } })
+pub no_marks : (s : List ℕ) (i : ℕ) → length s < i + 2 → Clear (mark_at s) i (length s)
+no_marks s i h = record { none = λ k a l. no_mark s k (omega (arith, a, h)) }
 
 -- ---- distances and places
 
@@ -128,10 +126,10 @@ module _ (s : List ℕ) (at : ℕ) where
       (ap (ends fresh l) (front s k h) ∙ ends_plain l (get_or s k 0) (drop (k + 1) s) (ap (mark (get_or s k 0)) q ∙ e))
 
   -- no mark stands before k
-  inside_plain : (i l k : ℕ) → Inside s at i l → Without mark_at s i k → Inside s at k l
-  inside_plain i l k p q =
-      clear_carries (λ j. Inside s at j l) (mark_at s) i k q.on q.clear p
-      (λ j h r e. inside_next l j (omega (arith, h, q.within)) r e)
+  inside_plain : (i l k : ℕ) → Inside s at i l → i ≤ k → k ≤ length s → Clear (mark_at s) i k → Inside s at k l
+  inside_plain i l k p on m q =
+      clear_carries (λ j. Inside s at j l) (mark_at s) i k on q p
+      (λ j h r e. inside_next l j (omega (arith, h, m)) r e)
 
   module _ (k l : ℕ) (p : Inside s at k l) (m : mark_at s k ≡ true) where
     next_two : drop k s ≡ get_or s k 0 ∷ get_or s (k + 1) 0 ∷ drop (k + 2) s
@@ -161,30 +159,26 @@ module _ (s : List ℕ) (at : ℕ) where
           let f : ends fresh l (drop k s) ≡ some 2 = rw (z, closes) (ends_last (drop (k + 2) s)) in
           record { end = ap (end_of k) (sym f) ∙ p.same; within = mark_whole s k m }
 
-  -- from a place i inside l comments, by the next mark
-  module _ (i k l : ℕ) (q : Sought mark_at mark_at s i (length s) k) (a : Inside s at i l) where
+  -- from a place i inside l comments, where no mark follows
+  pub inside_none : (i l : ℕ) → Clear (mark_at s) i (length s) → Inside s at i l → BlockEnd s at 0
+  unfolding ends
+  inside_none i l q a =
+      let p = inside_plain i l (length s) a a.within (omega arith) q in
+      let e : ends fresh l (drop (length s) s) ≡ none = ap (ends fresh l) (drop_of_length-le s {i = length s} (omega arith)) in
+      record { end = sym (ap (end_of (length s)) e) ∙ p.same; within = omega arith }
+
+  -- and by the next mark
+  module _ (i k l : ℕ) (q : Earliest (mark_at s) i (length s) k) (a : Inside s at i l) where
     here : Inside s at k l
-    here = inside_plain i l k a q.passed
+    here = inside_plain i l k a q.on (omega (arith, q.before)) q.clear
 
-    pub inside_none : k ≡ length s → BlockEnd s at 0
-    unfolding ends
-    inside_none h =
-        let e : ends fresh l (drop k s) ≡ none = ap (ends fresh l) (drop_of_length-le s {i = k} (omega arith)) in
-        record { end = sym (ap (end_of k) e) ∙ here.same; within = omega arith }
+    pub inside_open : get_or s k 0 ≡ byte "(" → Inside s at (k + 2) (l + 1)
+    inside_open o = opened k l here q.passes o
 
-    module _ (n : k ≡ length s → ⊥) where
-      is : mark_at s k ≡ true
-      is = q.stops (omega (arith, q.passed.within))
+    pub inside_close : (get_or s k 0 ≡ byte "(" → ⊥) → (l ≡ 0 → ⊥) → Inside s at (k + 2) (l - 1)
+    inside_close o z = closed k l here q.passes o (omega arith)
 
-      pub inside_open : get_or s k 0 ≡ byte "(" → Inside s at (k + 2) (l + 1)
-      inside_open o = opened k l here is o
-
-      pub inside_close : (get_or s k 0 ≡ byte "(" → ⊥) → (l ≡ 0 → ⊥) → Inside s at (k + 2) (l - 1)
-      inside_close o z = closed k l here is o (omega arith)
-
-      pub inside_last : (get_or s k 0 ≡ byte "(" → ⊥) → l ≡ 0 → BlockEnd s at (k + 2)
-      inside_last o = ended k l here is o
-
-pub ruleset marks = (finds, without_end)
+    pub inside_last : (get_or s k 0 ≡ byte "(" → ⊥) → l ≡ 0 → BlockEnd s at (k + 2)
+    inside_last o = ended k l here q.passes o
 
 pub ruleset blocks = (inside_start, inside_none, inside_open, inside_close, inside_last)

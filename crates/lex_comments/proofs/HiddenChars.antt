@@ -23,7 +23,7 @@ use Rattle.wat.proofs.Basics.{never}
 use Rattle.wat.proofs.ScalarValues.{All, all_listed}
 use Rattle.wat.proofs.Scalars.{peek_char, peek_nothing}
 use Rattle.lex_classes.specs.Ask.{confusing_bytes}
-use Rattle.lex_classes.proofs.ConfusingLaws.{unconfusing, unled}
+use Rattle.lex_classes.proofs.ConfusingLaws.{unconfusing, unled, spread, confusing_told}
 use Rattle.lex_comments.specs.Confusing.{lead}
 use Rattle.lex_comments.proofs.FindLaws.{among_or}
 
@@ -96,6 +96,13 @@ pub led_plain : (t : List ℕ) → Char (0xE2 ∷ take 2 t) → confusing_bytes 
 led_plain t ch h =
     let c = get_or-take 2 t 0 0 (omega arith) in
     let d = get_or-take 2 t 1 0 (omega arith) in unconfusing (0xE2 ∷ take 2 t) ch (rw (c, d) h)
+
+-- and one of which they say that it is
+pub led_confusing : (t : List ℕ) → confusing_bytes 0xE2 (get_or t 0 0) (get_or t 1 0) ≡ true
+    → confusing (scalar (0xE2 ∷ take 2 t)) ≡ true
+led_confusing [] e = let w = spread 0xE2 0 0 e in absurd (omega (arith, w.2))
+led_confusing (x ∷ []) e = let w = spread 0xE2 x 0 e in absurd (omega (arith, w.2))
+led_confusing (x ∷ y ∷ t) e = confusing_told x y e
 
 -- ---- looking at the bytes 0xE2 alone
 

@@ -7,7 +7,7 @@ use mathlib.Core.List.{List, [], ◌∷◌, ◌++◌}
 use native.Mathlib.Omega.{arith}
 use native.Mathlib.Nat.{add_assoc, add-zero}
 use native.Mathlib.Numerals.{add-one}
-use lib.ListN.{length, get_or, take, drop, length-append, length-take, length-drop, get_or-append}
+use lib.ListN.{length, get_or, take, drop, length-append, length-drop, get_or-append, get_or-eq_default}
 use lib.Seq.{drop-cons, drop-drop, drop-append-add, get_or-append-add}
 use borrow.Author.Tests.{le-ltb, lt-ltb}
 use Rattle.wat.specs.Bytes.{Each, none, next}
@@ -19,13 +19,16 @@ use Rattle.wat.specs.LexModel.{beyond, hidden}
 use Rattle.wat.proofs.Utf8Rows.{char_full}
 use Rattle.wat.proofs.Basics.{below}
 use Rattle.lex_classes.proofs.SearchLaws.{clear_carries}
-use Rattle.lex_comments.specs.Find.{byte_at, Without, Sought}
+use Rattle.std.specs.Prelude.{Option, Some, None}
+use Rattle.lex_classes.specs.Scan as scan
+use Rattle.lex_comments.specs.Find.{byte_at}
 use Rattle.lex_classes.specs.Ask.{confusing_bytes}
-use Rattle.lex_comments.specs.Confusing.{lead, confusing_at, before, hidden_in}
+use Rattle.lex_comments.specs.Confusing.{lead, confusing_at, before, hidden_in, Begins}
 use Rattle.wat.specs.declared.Hidden.TheVariants.{Clear, Found}
 use Rattle.lex_comments.proofs.HiddenChars.{lead_is, lead_not, char_tail_low, char_led, glance, glance_led, glance_plain}
-use Rattle.lex_comments.proofs.HiddenChars.{glance_next, glanced, unled_hides, hides_led, led_plain, led_front}
-use Rattle.lex_comments.proofs.FindLaws.{front, byte_behind, without_also, finds}
+use Rattle.lex_comments.proofs.HiddenChars.{glance_next, glanced, unled_hides, hides_led, led_plain, led_confusing, led_front}
+use Rattle.lex_comments.proofs.FindLaws.{front, byte_behind, clear_also}
+use Rattle.lex_classes.proofs.ConfusingLaws.{spread}
 
 each_at : {w : List ℕ} (k : ℕ) → Each lead false w → k < length w → lead (get_or w k 0) ≡ false
 each_at k none h = absurd (omega arith)
@@ -70,15 +73,28 @@ in_here : (i to c : ℕ) → i < to → hidden_in i to (found 0 c) ≡ Found i c
 in_here i to c l = ap (λ (m : ℕ). before to m c) (add-zero i) ∙ rw (lt-ltb i to l, before)
 
 -- a search for 0xE2 passes what may hide a character
-pub led_sought : (s : List ℕ) (at to r : ℕ) → Sought (byte_at lead) (byte_at lead) s at to r
-    → Sought confusing_at (byte_at lead) s at to r
-led_sought s at to r q =
-    record {
-      passed =
-          without_also (byte_at lead) s at r q.passed confusing_at
-          (λ k. unled_hides (get_or s k 0) (get_or s (k + 1) 0) (get_or s (k + 2) 0));
-      stops = q.stops;
-    }
+unled_at : (s : List ℕ) (k : ℕ) → byte_at lead s k ≡ false → confusing_at s k ≡ false
+unled_at s k = unled_hides (get_or s k 0) (get_or s (k + 1) 0) (get_or s (k + 2) 0)
+
+pub led_begins : (s : List ℕ) (from to : ℕ) (o : Option ℕ) → scan.Finds (byte_at lead s) from to o → Begins s from to o
+led_begins s from to None q = clear_also (confusing_at s) (unled_at s) q
+led_begins s from to (Some k) q = (q.on, clear_also (confusing_at s) (unled_at s) q.clear)
+
+-- a confusing character has three bytes
+confusing_whole : (s : List ℕ) (k : ℕ) → confusing_at s k ≡ true → k + 3 ≤ length s
+confusing_whole s k e =
+    ⊎_elim (λ h. omega (arith, h)) (λ h.
+    let z : get_or s (k + 2) 0 ≡ 0 = get_or-eq_default s 0 h in
+    let w = spread (get_or s k 0) (get_or s (k + 1) 0) (get_or s (k + 2) 0) e in
+    absurd (omega (arith, z, w.2)))
+    (below (k + 2) (length s))
+
+pub unhidden : (s : List ℕ) (k : ℕ) → length s < k + 3 → confusing_at s k ≡ false
+unhidden s k h = go (confusing_at s k) refl
+  where
+    go : (b : Bool) → confusing_at s k ≡ b → confusing_at s k ≡ false
+    go true e = absurd (omega (arith, h, confusing_whole s k e))
+    go false e = e
 
 -- nothing is found before the place i
 pub record Seen (s : List ℕ) (from to i : ℕ) : Type 0 where
@@ -106,13 +122,13 @@ module _ (s : List ℕ) (from to : ℕ) where
   seen_clear i p l = sym (in_past i to (glance (drop i s)) l) ∙ p.same
 
   module _ (k : ℕ) (p : Seen s from to k) (h : k < length s) where
-    pub seen_next : confusing (scalar (take 3 (drop k s))) ≡ false → Seen s from to (k + 1)
+    seen_next : confusing (scalar (take 3 (drop k s))) ≡ false → Seen s from to (k + 1)
     seen_next e =
         seen_more 1 p (omega arith)
         (ap glance (front s k h) ∙ glance_plain (get_or s k 0) (drop (k + 1) s)
         (ap (λ (l : List ℕ). confusing (scalar (take 3 l))) (sym (front s k h)) ∙ e))
 
-    pub seen_found :
+    seen_found :
         lead (get_or s k 0) ≡ true → confusing (scalar (take 3 (drop k s))) ≡ true → k < to
         → Found k (scalar (take 3 (drop k s))) ≡ hidden_in from to (hidden (suc (length (drop from s))) (drop from s))
     seen_found l e b =
@@ -136,9 +152,6 @@ module _ (s : List ℕ) (from to : ℕ) where
           subst (λ (z : List ℕ). Char (take 3 z)) d
           (led_char n w (omega (arith, length-drop from s, p.on)) (byte_behind s from n k q ∙ lead_is (get_or s k 0) l))
 
-      pub seen_whole : lead (get_or s k 0) ≡ true → k + 3 ≤ length s
-      seen_whole l = omega (arith, char_led (led l), length-take 2 (drop (k + 1) s), length-drop (k + 1) s)
-
       seen_one : confusing_at s k ≡ false → Seen s from to (k + 1)
       seen_one e = go (lead (get_or s k 0)) refl
         where
@@ -152,30 +165,34 @@ module _ (s : List ℕ) (from to : ℕ) where
           go false l = seen_more 1 p (omega arith) (ap glance (front s k h) ∙ glance_next (get_or s k 0) (drop (k + 1) s) l)
 
   -- nothing before k is confusing
-  pub seen_plain : (i k : ℕ) → WellFormed (drop from s) → Seen s from to i → Without confusing_at s i k → Seen s from to k
-  seen_plain i k w p q =
-      clear_carries (λ j. Seen s from to j) (confusing_at s) i k q.on q.clear p
-      (λ j h r e. seen_one j r (omega (arith, h, q.within)) w e)
+  pub seen_plain : (i k : ℕ) → WellFormed (drop from s) → Seen s from to i → i ≤ k → k ≤ length s
+      → scan.Clear (confusing_at s) i k → Seen s from to k
+  seen_plain i k w p on m q =
+      clear_carries (λ j. Seen s from to j) (confusing_at s) i k on q p
+      (λ j h r e. seen_one j r (omega (arith, h, m)) w e)
 
--- nothing before i is confusing
-pub seen_first : (s : List ℕ) (from to i : ℕ) → Without confusing_at s from i → WellFormed (drop from s) → Seen s from to i
-seen_first s from to i q w = seen_plain s from to from i w (seen_start s from to (omega (arith, q.on, q.within)) w) q
+-- what the search finds is what is hidden
+module _ (s : List ℕ) (from to : ℕ) (w : WellFormed (drop from s)) (h : from ≤ to) (l : to ≤ length s) where
+  reached : (k : ℕ) → from ≤ k → k ≤ to → scan.Clear (confusing_at s) from k → Seen s from to k
+  reached k a b q = seen_plain s from to from k w (seen_start s from to (omega arith) w) a (omega arith) q
 
--- from a place i on, by the next byte 0xE2
-module _ (s : List ℕ) (from to i k : ℕ) where
-  here : WellFormed (drop from s) → Seen s from to i → Sought confusing_at (byte_at lead) s i to k → Seen s from to k
-  here w p q = seen_plain s from to i k w p q.passed
+  pub hidden_none : scan.Clear (confusing_at s) from to → Clear ≡ hidden_in from to (hidden (suc (length (drop from s))) (drop from s))
+  hidden_none q = seen_clear s from to to (reached to h (omega arith) q) (omega arith)
 
-  pub lead_whole : WellFormed (drop from s) → Seen s from to i → Sought confusing_at (byte_at lead) s i to k → k < to
-      → to ≤ length s → k + 3 ≤ length s
-  lead_whole w p q h e = seen_whole s from to k (here w p q) (omega arith) w (q.stops h)
+  module _ (k : ℕ) (q : scan.Earliest (confusing_at s) from to k) where
+    pub hidden_whole : k + 3 ≤ length s
+    hidden_whole = confusing_whole s k q.passes
 
-  pub lead_found : (c : ℕ) → Sought confusing_at (byte_at lead) s i to k → WellFormed (drop from s) → Seen s from to i → k < to
-      → to ≤ length s → c ≡ scalar (take 3 (drop k s)) → confusing c ≡ true
-      → Found k c ≡ hidden_in from to (hidden (suc (length (drop from s))) (drop from s))
-  lead_found c q w p h e g f =
-      rw g (seen_found s from to k (here w p q) (omega arith) (q.stops h) (ap confusing (sym g) ∙ f) h)
-
-pub ruleset sights = (finds, led_sought, hides_led)
-
-pub ruleset seens = (seen_plain, seen_clear, seen_next, lead_found, lead_whole, seen_first)
+    pub hidden_some : (c : ℕ) → c ≡ scalar (take 3 (drop k s))
+        → Found k c ≡ hidden_in from to (hidden (suc (length (drop from s))) (drop from s))
+    hidden_some c e =
+        let i : k < length s = omega (arith, q.before) in
+        let u : lead (get_or s k 0) ≡ true = hides_led (get_or s k 0) (get_or s (k + 1) 0) (get_or s (k + 2) 0) q.passes in
+        let d : drop k s ≡ 0xE2 ∷ drop (k + 1) s =
+        front s k i ∙ ap (λ (y : ℕ). y ∷ drop (k + 1) s) (lead_is (get_or s k 0) u) in
+        let a = byte_behind s (k + 1) 0 (k + 1) (omega arith) in
+        let b = byte_behind s (k + 1) 1 (k + 2) (omega arith) in
+        let f : confusing_bytes 0xE2 (get_or s (k + 1) 0) (get_or s (k + 2) 0) ≡ true = rw (lead_is (get_or s k 0) u) at q.passes in
+        let g : confusing (scalar (take 3 (drop k s))) ≡ true =
+        ap (λ (z : List ℕ). confusing (scalar (take 3 z))) d ∙ led_confusing (drop (k + 1) s) (rw (a, b) f) in
+        rw e (seen_found s from to k (reached k q.on (omega (arith, q.before)) q.clear) i u g q.before)

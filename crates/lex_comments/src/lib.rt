@@ -6,32 +6,28 @@ ghost use Rattle.std.specs.Prelude.{◌≡◌, false, suc, ◌+◌, ◌≤◌, l
 ghost use Rattle.wat.specs.Utf8.{WellFormed, scalar};
 ghost use Rattle.wat.specs.Chars.{newline};
 ghost use Rattle.wat.specs.LexModel.{hidden};
-ghost use Rattle.lex_classes.specs.Scan.{Scanned, First};
-ghost use Rattle.lex_comments.specs.Find.{among, byte_at, Without, Sought};
+ghost use Rattle.lex_classes.specs.Scan.{Scanned, Finds};
+ghost use Rattle.lex_comments.specs.Find.{among, byte_at};
 ghost use Rattle.lex_comments.specs.Ends.{line_stop, mark, mark_at, BlockEnd};
-ghost use Rattle.lex_comments.specs.Confusing.{lead, confusing_at, hidden_in};
+ghost use Rattle.lex_comments.specs.Confusing.{confusing_at, hidden_in, Begins};
 
 use wat::Hidden;
 
-// The place of the first byte from `at` on that is x or y, if it stands before `to`; if not, `to`.
-#[tactic(auto, using(crate::proofs::FindLaws::firsts))]
-fn memchr2(x: u8, y: u8, s: &[u8], at: usize, to: usize) -> usize
+// The place of the first byte from `at` on and before `to` that is x or y, if one is. The kit's `memchr` takes 1.13
+// of the instructions for line comments of 47 bytes with characters beyond ASCII, and 1.06 for such block comments.
+fn memchr2(x: u8, y: u8, s: &[u8], at: usize, to: usize) -> Option<usize>
     requires { (at ≤ to) × (to ≤ length s.now) }
-    ensures { Sought (byte_at (among x y)) (byte_at (among x y)) s.now at to result }
+    ensures { Finds (byte_at (among x y) s.now) at to result }
 {
-    match memchr::memchr2(x, y, &s[at..to]) {
-        Some(n) => at + n,
-        None => to,
-    }
+    lex_classes::find::<64, _>(at, to, s.len(), |k| (x == s[k]) | (y == s[k]))
 }
 
 // Where the line of `at` ends: at its LF or CR, or at the end of the text.
-#[tactic(auto, using(crate::proofs::FindLaws::sought_all), unfolding(wat::specs::Chars::newline))]
 pub fn line_end(s: &[u8], at: usize) -> usize
     requires { at ≤ length s.now }
     ensures { Scanned newline false s.now at result }
 {
-    memchr2(b'\n', b'\r', s, at, s.len())
+    memchr2(b'\n', b'\r', s, at, s.len()).unwrap_or(s.len())
 }
 
 // Whether a line ends at such a byte, or a confusing character may begin with it.
@@ -42,43 +38,13 @@ fn is_line_stop(b: u8) -> bool
     ((b'\n' == b) | (b'\r' == b)) | (0xe2 == b)
 }
 
-// How many of the 64 bytes from i on come before the first such byte.
-#[tactic(auto, using(crate::proofs::FindLaws::sifts))]
-fn stop64(s: &[u8], i: usize) -> usize
-    requires { i + 64 ≤ length s.now }
-    ensures { First (byte_at line_stop s.now) i 64 result }
-{
-    let mut m: u8 = 64;
-    let mut k: usize = 0;
-    while k < 64 {
-        m = lex_classes::lesser(is_line_stop(s[i + k]), 64, k as u8, m);
-        k += 1;
-    }
-    m as usize
-}
-
 // Where the line of `at` ends, or the first byte 0xe2 before that: where there is none, nothing in the line is
 // confusing.
-#[tactic(auto, using(crate::proofs::LineLaws::stops))]
 pub fn plain_line(s: &[u8], at: usize) -> usize
     requires { at ≤ length s.now }
     ensures { Scanned line_stop false s.now at result }
 {
-    let mut i = at;
-    while 64 <= s.len() - i {
-        let n = stop64(s, i);
-        if n < 64 {
-            return i + n;
-        }
-        i += 64;
-    }
-    while i < s.len() {
-        if is_line_stop(s[i]) {
-            return i;
-        }
-        i += 1;
-    }
-    i
+    lex_classes::find::<64, _>(at, s.len(), s.len(), |k| is_line_stop(s[k])).unwrap_or(s.len())
 }
 
 // Whether two bytes are a mark, `(;` or `;)`.
@@ -89,63 +55,30 @@ fn is_mark(b: u8, c: u8) -> bool
     ((b == b'(') & (c == b';')) | ((b == b';') & (c == b')'))
 }
 
-// The first of the 64 places from i on with a mark.
-#[tactic(auto, using(crate::proofs::FindLaws::sifts))]
-fn mark64(s: &[u8], i: usize) -> usize
-    requires { i + 65 ≤ length s.now }
-    ensures { First (mark_at s.now) i 64 result }
+// The place of the next mark from `at` on, 64 places at a time.
+fn far_mark(s: &[u8], at: usize) -> Option<usize>
+    requires { at ≤ length s.now }
+    ensures { Finds (mark_at s.now) at (length s.now) result }
 {
-    let mut m: u8 = 64;
-    let mut k: usize = 0;
-    while k < 64 {
-        m = lex_classes::lesser(is_mark(s[i + k], s[i + k + 1]), 64, k as u8, m);
-        k += 1;
+    if s.len() - at < 2 {
+        return None;
     }
-    m as usize
+    let end = s.len() - 1;
+    lex_classes::find::<64, _>(at, end, end, |k| is_mark(s[k], s[k + 1]))
 }
 
-// The place of the next mark from `at` on, or the text's length: 64 places at a time.
-#[tactic(auto, using(crate::proofs::BlockLaws::marks))]
-fn far_mark(s: &[u8], at: usize) -> usize
+// The same, place by place at first: in nested comments the next mark is close by.
+fn next_mark(s: &[u8], at: usize) -> Option<usize>
     requires { at ≤ length s.now }
-    ensures { Sought mark_at mark_at s.now at (length s.now) result }
-{
-    let mut i = at;
-    while 65 <= s.len() - i {
-        let n = mark64(s, i);
-        if n < 64 {
-            return i + n;
-        }
-        i += 64;
-    }
-    while 2 <= s.len() - i {
-        if is_mark(s[i], s[i + 1]) {
-            return i;
-        }
-        i += 1;
-    }
-    s.len()
-}
-
-// The same, place by place at first: in nested comments the next mark is close by. LLVM unrolls a loop of eight steps,
-// and each then has a branch of its own, which the processor foresees better.
-#[tactic(auto, using(crate::proofs::FindLaws::finds))]
-fn next_mark(s: &[u8], at: usize) -> usize
-    requires { at ≤ length s.now }
-    ensures { Sought mark_at mark_at s.now at (length s.now) result }
+    ensures { Finds (mark_at s.now) at (length s.now) result }
 {
     if s.len() - at < 9 {
         return far_mark(s, at);
     }
-    let near = at + 8;
-    let mut i = at;
-    while i < near {
-        if is_mark(s[i], s[i + 1]) {
-            return i;
-        }
-        i += 1;
+    if let Some(k) = lex_classes::near(at, |k| is_mark(s[k], s[k + 1])) {
+        return Some(k);
     }
-    far_mark(s, i)
+    far_mark(s, at + 8)
 }
 
 // The place past a block comment whose `(;` ends at `at`, or 0 if nothing closes it. The marks are ASCII, and in UTF-8
@@ -158,20 +91,17 @@ pub fn block_end(s: &[u8], at: usize) -> usize
     let mut level: usize = 0;
     let mut i = at;
     loop {
-        let k = next_mark(s, i);
-        if k == s.len() {
+        let Some(k) = next_mark(s, i) else {
             return 0;
-        }
+        };
+        i = k + 2;
         if s[k] == b'(' {
             level += 1;
-            i = k + 2;
-            continue;
+        } else if level == 0 {
+            return i;
+        } else {
+            level -= 1;
         }
-        if level == 0 {
-            return k + 2;
-        }
-        level -= 1;
-        i = k + 2;
     }
 }
 
@@ -187,78 +117,50 @@ fn char_at(s: &[u8], at: usize) -> u32
     a % 0x10 * 0x1000 + b % 0x40 * 0x40 + c % 0x40
 }
 
-// The first of the 32 places from i on with a confusing character.
-#[tactic(auto, using(crate::proofs::FindLaws::sifts))]
-fn hides32(s: &[u8], i: usize) -> usize
-    requires { i + 34 ≤ length s.now }
-    ensures { First (confusing_at s.now) i 32 result }
-{
-    let mut m: u8 = 32;
-    let mut k: usize = 0;
-    while k < 32 {
-        let hides = lex_classes::is_confusing_bytes(s[i + k], s[i + k + 1], s[i + k + 2]);
-        m = lex_classes::lesser(hides, 32, k as u8, m);
-        k += 1;
-    }
-    m as usize
-}
-
-// The place of a byte 0xe2 from `at` on, if it stands before `to`, and if not, a place from `to` on: nothing before it
-// is confusing.
-#[tactic(auto, using(crate::proofs::HiddenLaws::sights))]
-fn next_hidden(s: &[u8], at: usize, to: usize) -> usize
-    requires { (at ≤ to) × (to ≤ length s.now) }
-    ensures { Sought confusing_at (byte_at lead) s.now at to result }
-{
-    let mut i = at;
-    while i < to {
-        if s.len() - i < 34 {
-            return memchr2(0xe2, 0xe2, s, i, to);
-        }
-        let n = hides32(s, i);
-        if n < 32 {
-            return i + n;
-        }
-        i += 32;
-    }
-    i
-}
-
-// A place before which nothing is confusing: the first byte 0xe2 of a comment. A short one is looked through but once.
-#[tactic(auto, using(crate::proofs::HiddenLaws::sights))]
-fn first_lead(s: &[u8], from: usize, to: usize) -> usize
+// A place from `from` on before which nothing is confusing, or none, if nothing before `to` is. Each of the nine
+// characters begins with the byte 0xe2, which most comments do not have: one of more than 32 bytes is first looked
+// through for it.
+fn first_lead(s: &[u8], from: usize, to: usize) -> Option<usize>
     requires { (from ≤ to) × (to ≤ length s.now) }
-    ensures { Without confusing_at s.now from result }
+    ensures { Begins s.now from to result }
 {
     if to - from <= 32 {
-        return from;
+        return Some(from);
     }
     memchr2(0xe2, 0xe2, s, from, to)
 }
 
-// The first confusing character of the comment from `from` to `to`. Each of the nine begins with the byte 0xe2, which
-// stands nowhere but at the start of a character, and which most comments do not have.
-#[tactic(auto, using(crate::proofs::HiddenLaws::seens))]
+// The first place from `from` on and before `to` where the three bytes of a confusing character stand, 32 at a time.
+fn next_hidden(s: &[u8], from: usize, to: usize) -> Option<usize>
+    requires { (from ≤ to) × (to ≤ length s.now) }
+    ensures { Finds (confusing_at s.now) from to result }
+{
+    if s.len() - from < 3 {
+        return None;
+    }
+    let i = first_lead(s, from, to)?;
+    let end = s.len() - 2;
+    lex_classes::find::<32, _>(
+        i,
+        to.min(end),
+        end,
+        |k| lex_classes::is_confusing_bytes(s[k], s[k + 1], s[k + 2]),
+    )
+}
+
+// The first confusing character of the comment from `from` to `to`. Their three bytes are told without decoding, since
+// 0xe2 stands nowhere but at the start of a character.
 pub fn check_confusing_comment(s: &[u8], from: usize, to: usize) -> Hidden
     requires from_le_to { (from ≤ to) × (to ≤ length s.now) }
     requires well_formed { WellFormed (drop from s.now) }
     ensures { result ≡ hidden_in from to
         (hidden (suc (length (drop from s.now))) (drop from s.now)) }
 {
-    let mut i = first_lead(s, from, to);
-    while i < to {
-        let k = next_hidden(s, i, to);
-        if to <= k {
-            return Hidden::Clear;
-        }
-        let c = char_at(s, k);
-        if lex_classes::is_confusing_unicode(c) {
-            return Hidden::Found {
-                at: k,
-                character: c,
-            };
-        }
-        i = k + 1;
+    match next_hidden(s, from, to) {
+        Some(at) => Hidden::Found {
+            at,
+            character: char_at(s, at),
+        },
+        None => Hidden::Clear,
     }
-    Hidden::Clear
 }

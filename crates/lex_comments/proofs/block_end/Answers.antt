@@ -1,6 +1,6 @@
-use Rattle.std.proofs.Common.{rules}
 use Rattle.lex_comments.proofs.BlockLaws.{inside_open}
 use Rattle.lex_comments.proofs.block_end.Goals as goal
 
-pub loop-at-preserved-then-s-k-eq40 : goal.loop-at-preserved-then-s-k-eq40
-loop-at-preserved-then-s-k-eq40 c = search (rules, inside_open)
+pub loop-k-preserved-then-s-k-eq40 : goal.loop-k-preserved-then-s-k-eq40
+loop-k-preserved-then-s-k-eq40 c =
+    inside_open c.args.s.now c.args.at c.loop-k.i c.in-Some.k c.loop-k.level c.in-Some.ensures c.loop-k.invariant c.if-s-k-eq40.true

@@ -1,0 +1,13 @@
+use Rattle.std.proofs.Common.{◌+◌, true, arith, rules}
+use Rattle.wat.specs.Chars.{idchar}
+use Rattle.lex_classes.proofs.SearchLaws.{other, rest_scanned, earliest_scanned}
+use Rattle.lex_classes.proofs.idchars_end.Goals as goal
+
+pub returns-in-Some : goal.returns-in-Some
+returns-in-Some c =
+    earliest_scanned idchar true _ _ _ _ (omega arith) (c.in-Some.ensures (other idchar true c.args.s.now) (λ k r p. search rules))
+
+pub returns : goal.returns
+returns c =
+    rest_scanned idchar true _ _ (c.args.at + 8) _ (omega arith) (omega arith)
+    (c.in_default.ensures (other idchar true c.args.s.now) (λ k r p. search rules)) c.long_word-2.ensures
