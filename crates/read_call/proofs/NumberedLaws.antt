@@ -4,17 +4,12 @@ use mathlib.Core.Path.{◌≡◌, refl, ap, ◌∙◌, subst}
 use mathlib.Core.List.{List, [], ◌∷◌}
 use mathlib.Core.Option.{Option, none, some}
 use native.Mathlib.Omega.{arith}
-use Rattle.wat.specs.declared.{Token.Token, Refusal.Refusal}
+use Rattle.wat.specs.declared.Token.{Token}
 use Rattle.wat_values.specs.declared.Reading.{Reading}
-use Rattle.wat.specs.declared.Refusal.TheVariants.{NotThatKind}
-use Rattle.wat_values.specs.declared.Reading.TheVariants as reading
 use Rattle.wat_values.specs.declared.FloatPart.{FloatPart}
 use Rattle.wat_values.specs.declared.FloatPart.TheVariants as the
 use Rattle.wat_values.specs.Values.{Reader, Takes, Reads}
-use Rattle.wat_values.specs.Reading.{no_place, Handed, Read}
-use Rattle.read_token.specs.declared.TokenCheck.{TokenCheck}
-use Rattle.read_token.specs.declared.TokenCheck.TheVariants as presence
-use Rattle.read_token.specs.Here.{Here}
+use Rattle.wat_values.specs.Reading.{Handed, Read}
 use Rattle.read_call.specs.declared.Reader.{Reader as Named}
 use Rattle.read_call.specs.declared.Reader.TheVariants as named
 use Rattle.read_call.specs.ByNumber.{readers, nth, reader_of, ReadBy}
@@ -93,11 +88,4 @@ module _ {n : ℕ} {text buffer : List ℕ} {token : Token} {a : Reading} {b : L
   pub by_float : {p : FloatPart} → k ≡ named.Float p → Read (Reader.float p) text token buffer a b → ReadBy n text token buffer a b
   by_float q r = ReadBy.by (e ∙ ap (λ (k : Named). some (reader_of k)) q) r
 
-module _ {n : ℕ} {text buffer : List ℕ} {token : Token} {m : TokenCheck} (a : nth readers n ≡ none) (h : Here text token m) where
-  pub by_nobody : m ≡ presence.There → ReadBy n text token buffer (reading.Refused NotThatKind no_place) buffer
-  by_nobody e = ReadBy.nobody a (subst (Here text token) e h)
-
-  pub by_nobody_missing : {r : Refusal} {p : ℕ} → m ≡ presence.Refused r p → ReadBy n text token buffer (reading.Refused r p) buffer
-  by_nobody_missing e = ReadBy.missing a (subst (Here text token) e h)
-
-pub ruleset readers_by = (by_source, by_string, by_digits, by_float, by_nobody, by_nobody_missing)
+pub ruleset readers_by = (by_source, by_string, by_digits, by_float, ReadBy.nobody, ReadBy.missing)

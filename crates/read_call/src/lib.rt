@@ -6,8 +6,7 @@
 ghost use Rattle.read_call.specs.ByNumber.{Numbered, ReadBy};
 
 use lex_classes::Table;
-use read_token::TokenCheck;
-use wat::{Refusal, Token};
+use wat::{Refusal, Refused, Token};
 use wat_values::{FloatPart, NO_PLACE, Reading};
 
 // The readers that have a number.
@@ -51,11 +50,11 @@ pub fn read(text: &[u8], reader: u64, token: Token, buffer: &mut [u8]) -> Readin
     let Ok(reader) = Reader::try_from(reader) else {
         let t = Table::new();
         return match read_token::present(text, token, &t) {
-            TokenCheck::There => Reading::Refused {
+            Ok(()) => Reading::Refused {
                 refusal: Refusal::NotThatKind,
                 place: NO_PLACE,
             },
-            TokenCheck::Refused { refusal, place } => Reading::Refused { refusal, place },
+            Err(Refused { refusal, place }) => Reading::Refused { refusal, place },
         };
     };
     match reader {

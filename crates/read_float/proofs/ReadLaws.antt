@@ -4,11 +4,11 @@ use mathlib.Core.Path.{◌≡◌, refl, ap, ◌∙◌}
 use mathlib.Core.Bool.{Bool}
 use mathlib.Core.List.{List}
 use native.Mathlib.Omega.{arith}
-use Rattle.wat.specs.declared.{IntegerKind.IntegerKind, FloatKind.FloatKind, TokenKind.TokenKind, Token.Token, Refusal.Refusal}
+use Rattle.wat.specs.declared.{IntegerKind.IntegerKind, FloatKind.FloatKind, TokenKind.TokenKind, Token.Token, Refused.Refused}
 use Rattle.wat_values.specs.declared.{FloatPart.FloatPart, Reading.Reading}
 use Rattle.wat.specs.declared.Refusal.TheVariants.{NotThatKind}
 use Rattle.wat.specs.declared.TokenKind.TheVariants as kind
-use Rattle.wat_values.specs.declared.Reading.TheVariants.{Refused}
+use Rattle.wat_values.specs.declared.Reading.TheVariants as reading
 use Rattle.wat.specs.declared.FloatKind.TheVariants as number
 use Rattle.wat_values.specs.declared.FloatSign.TheVariants as float
 use Rattle.wat.specs.Tokens.{Tok}
@@ -37,15 +37,15 @@ takes_float (Takes.a_float {f = f}) = (f, refl)
 
 module _ {text : List ℕ} {token : Token} where
   module _ {part : FloatPart} {buffer : List ℕ} where
-    pub float_denied : {r : Refusal} {p : ℕ} → Denied text token r p → Read (Reader.float part) text token buffer (Refused r p) buffer
+    pub float_denied : {r : Refused} → Denied text token r → Read (Reader.float part) text token buffer (reading.Refused r.refusal r.place) buffer
     float_denied (Denied.missing b) = Read.missing b
     float_denied (Denied.no_number t n m) = Read.other_kind t (λ k. let f = takes_float k in m f.0 f.1)
 
     pub integer_denied : {i : IntegerKind} → There text token × (token.kind ≡ kind.Integer i)
-        → Read (Reader.float part) text token buffer (Refused NotThatKind no_place) buffer
+        → Read (Reader.float part) text token buffer (reading.Refused NotThatKind no_place) buffer
     integer_denied (t, e) = Read.other_kind t (λ k. kinds_apart e (takes_float k).1)
 
-  pub negative_denied : {r : Refusal} {p : ℕ} → Denied text token r p → ReadsNegative text token (float.Refused r p)
+  pub negative_denied : {r : Refused} → Denied text token r → ReadsNegative text token (float.Refused r.refusal r.place)
   negative_denied (Denied.missing b) = ReadsNegative.missing b
   negative_denied (Denied.no_number t n m) = ReadsNegative.other_kind t m
 

@@ -7,8 +7,7 @@ ghost use Rattle.wat_values.specs.Values.{float};
 ghost use Rattle.wat_values.specs.Reading.{Read, ReadsNegative};
 
 use lex_classes::Table;
-use read_token::NumberKind;
-use wat::{FloatKind, Refusal, Token};
+use wat::{FloatKind, NumberKind, Refusal, Refused, Token};
 use wat_values::{FloatPart, FloatSign, NO_PLACE, Reading};
 
 // A part of a float, absent where its kind lacks it.
@@ -18,12 +17,12 @@ pub fn part(text: &[u8], token: Token, which: FloatPart, buffer: &mut [u8]) -> R
 {
     let t = Table::new();
     match read_token::number_kind(text, token, &t) {
-        NumberKind::Refused { refusal, place } => Reading::Refused { refusal, place },
-        NumberKind::Integer(_) => Reading::Refused {
+        Err(Refused { refusal, place }) => Reading::Refused { refusal, place },
+        Ok(NumberKind::Integer(_)) => Reading::Refused {
             refusal: Refusal::NotThatKind,
             place: NO_PLACE,
         },
-        NumberKind::Float(kind) => {
+        Ok(NumberKind::Float(kind)) => {
             let at = token.offset;
             let end = at + token.len as usize;
             read_parts::float(text, at, end, kind, which, buffer, &t)
@@ -66,12 +65,12 @@ pub fn float_sign(text: &[u8], token: Token) -> FloatSign
 {
     let t = Table::new();
     match read_token::number_kind(text, token, &t) {
-        NumberKind::Refused { refusal, place } => FloatSign::Refused { refusal, place },
-        NumberKind::Integer(_) => FloatSign::Refused {
+        Err(Refused { refusal, place }) => FloatSign::Refused { refusal, place },
+        Ok(NumberKind::Integer(_)) => FloatSign::Refused {
             refusal: Refusal::NotThatKind,
             place: NO_PLACE,
         },
-        NumberKind::Float(kind) => match kind {
+        Ok(NumberKind::Float(kind)) => match kind {
             FloatKind::Inf { negative } => FloatSign::Negative(negative),
             FloatKind::Nan { negative } => FloatSign::Negative(negative),
             FloatKind::NanVal {

@@ -3,11 +3,11 @@ use Prim.Native.Nat.{ℕ, ◌+◌}
 use mathlib.Core.Path.{◌≡◌, refl}
 use mathlib.Core.List.{List}
 use native.Mathlib.Omega.{arith}
-use Rattle.wat.specs.declared.{IntegerKind.IntegerKind, FloatKind.FloatKind, TokenKind.TokenKind, Token.Token, Refusal.Refusal}
+use Rattle.wat.specs.declared.{IntegerKind.IntegerKind, FloatKind.FloatKind, TokenKind.TokenKind, Token.Token, Refused.Refused}
 use Rattle.wat_values.specs.declared.Reading.{Reading}
 use Rattle.wat.specs.declared.Refusal.TheVariants.{NotThatKind}
 use Rattle.wat.specs.declared.TokenKind.TheVariants as kind
-use Rattle.wat_values.specs.declared.Reading.TheVariants.{Refused}
+use Rattle.wat_values.specs.declared.Reading.TheVariants as reading
 use Rattle.wat_values.specs.declared.IntegerSign.TheVariants as integer
 use Rattle.wat.specs.Numbers.{IsFloat}
 use Rattle.wat_values.specs.Values.{Reader, Takes, Reads}
@@ -39,15 +39,15 @@ takes_integer (Takes.an_integer {i = i}) = (i, refl)
 
 module _ {text : List ℕ} {token : Token} where
   module _ {buffer : List ℕ} where
-    pub integer_denied : {r : Refusal} {p : ℕ} → Denied text token r p → Read Reader.digits text token buffer (Refused r p) buffer
+    pub integer_denied : {r : Refused} → Denied text token r → Read Reader.digits text token buffer (reading.Refused r.refusal r.place) buffer
     integer_denied (Denied.missing b) = Read.missing b
     integer_denied (Denied.no_number t n m) = Read.other_kind t (λ k. let i = takes_integer k in n i.0 i.1)
 
     pub float_denied : {f : FloatKind} → There text token × (token.kind ≡ kind.Float f)
-        → Read Reader.digits text token buffer (Refused NotThatKind no_place) buffer
+        → Read Reader.digits text token buffer (reading.Refused NotThatKind no_place) buffer
     float_denied (t, e) = Read.other_kind t (λ k. kinds_apart (takes_integer k).1 e)
 
-  pub sign_denied : {r : Refusal} {p : ℕ} → Denied text token r p → ReadsSign text token (integer.Refused r p)
+  pub sign_denied : {r : Refused} → Denied text token r → ReadsSign text token (integer.Refused r.refusal r.place)
   sign_denied (Denied.missing b) = ReadsSign.missing b
   sign_denied (Denied.no_number t n m) = ReadsSign.other_kind t n
 

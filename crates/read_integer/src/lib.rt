@@ -6,8 +6,7 @@ ghost use Rattle.wat_values.specs.Values.{Reader};
 ghost use Rattle.wat_values.specs.Reading.{Read, ReadsSign};
 
 use lex_classes::Table;
-use read_token::NumberKind;
-use wat::{Refusal, Token};
+use wat::{NumberKind, Refusal, Refused, Token};
 use wat_values::{IntegerSign, NO_PLACE, Reading};
 
 // An integer's digits, with a `-`.
@@ -17,12 +16,12 @@ pub fn integer(text: &[u8], token: Token, buffer: &mut [u8]) -> Reading
 {
     let t = Table::new();
     match read_token::number_kind(text, token, &t) {
-        NumberKind::Refused { refusal, place } => Reading::Refused { refusal, place },
-        NumberKind::Float(_) => Reading::Refused {
+        Err(Refused { refusal, place }) => Reading::Refused { refusal, place },
+        Ok(NumberKind::Float(_)) => Reading::Refused {
             refusal: Refusal::NotThatKind,
             place: NO_PLACE,
         },
-        NumberKind::Integer(kind) => {
+        Ok(NumberKind::Integer(kind)) => {
             let at = token.offset;
             let end = at + token.len as usize;
             let hex = kind.hex;
@@ -37,12 +36,12 @@ pub fn integer_sign(text: &[u8], token: Token) -> IntegerSign
 {
     let t = Table::new();
     match read_token::number_kind(text, token, &t) {
-        NumberKind::Refused { refusal, place } => IntegerSign::Refused { refusal, place },
-        NumberKind::Float(_) => IntegerSign::Refused {
+        Err(Refused { refusal, place }) => IntegerSign::Refused { refusal, place },
+        Ok(NumberKind::Float(_)) => IntegerSign::Refused {
             refusal: Refusal::NotThatKind,
             place: NO_PLACE,
         },
-        NumberKind::Integer(kind) => {
+        Ok(NumberKind::Integer(kind)) => {
             let sign = kind.sign;
             IntegerSign::Sign(sign)
         }

@@ -9,24 +9,19 @@ use lib.Seq.{drop-drop}
 use Rattle.wat.specs.declared.TokenKind.{TokenKind}
 use Rattle.wat.specs.declared.TokenKind.TheVariants as kind
 use Rattle.wat.specs.declared.Token.{Token}
-use Rattle.wat.specs.declared.Refusal.{Refusal}
-use Rattle.wat.specs.declared.Refusal.TheVariants.{NotThatKind}
+use Rattle.wat.specs.declared.Refused.{Refused}
 use Rattle.wat_values.specs.declared.{Reading.Reading, NameKind.NameKind, NameReading.NameReading}
 use Rattle.wat_values.specs.declared.Reading.TheVariants as reading
 use Rattle.wat_values.specs.declared.NameReading.TheVariants as named
 use Rattle.wat.specs.Settings.{lenient}
 use Rattle.wat.specs.Strings.{Str}
 use Rattle.wat_values.specs.Values.{Reader, Sigil, Takes, Value, Name, Reads}
-use Rattle.wat_values.specs.Reading.{There, no_place, own, Read, ReadsName}
+use Rattle.wat_values.specs.Reading.{There, own, Read, ReadsName}
 use Rattle.wat.proofs.Basics.{differ}
 use Rattle.wat_values.proofs.OneValue.{sigil_one}
 use Rattle.wat_values.proofs.SomeValue as one
 use Rattle.wat_values.proofs.ReadingLaws.{is_token, token_long, named_reads}
-use Rattle.read_token.specs.declared.TokenCheck.{TokenCheck}
-use Rattle.read_token.specs.declared.TokenCheck.TheVariants as presence
-use Rattle.read_token.specs.declared.NameCheck.{NameCheck}
-use Rattle.read_token.specs.declared.NameCheck.TheVariants as name
-use Rattle.read_token.specs.Here.{Taken, HereName}
+use Rattle.read_token.specs.Here.{Untaken, HereName, Unnamed}
 use Rattle.read_names.specs.Names.{Quoted, Quotes, tail, Sigiled, NameHanded}
 use Rattle.read_names.proofs.HandLaws.{handed_part, handed_left, handed_short, handed_copy}
 use Rattle.read_token.proofs.PresentLaws.{there_fits, there_reads}
@@ -39,21 +34,10 @@ src_reads {text} {token} t =
 -- ---- 31
 
 module _ {text : List ℕ} {token : Token} {k : TokenKind} where
-  taken_there : {m : TokenCheck} → Taken text token k m → m ≡ presence.There → There text token × (token.kind ≡ k)
-  taken_there (Taken.taken t e) q = (t, e)
-  taken_there (Taken.missing b) q = differ (cc)
-  taken_there (Taken.other_kind t n) q = differ (cc)
-
-  pub taken_refused : {m : TokenCheck} {r : Refusal} {p : ℕ} (reader : Reader) (buffer : List ℕ)
-      → ((j : TokenKind) → Takes reader j → j ≡ k)
-      → Taken text token k m → m ≡ presence.Refused r p → Read reader text token buffer (reading.Refused r p) buffer
-  taken_refused reader buffer only (Taken.taken t e) q = differ (cc)
-  taken_refused {r = r} {p = p} reader buffer only (Taken.missing {r = x} {p = y} b) q =
-      let z : reading.Refused x y ≡ reading.Refused r p = cc in
-      rw (← z) (Read.missing b)
-  taken_refused {r = r} {p = p} reader buffer only (Taken.other_kind t n) q =
-      let z : reading.Refused NotThatKind no_place ≡ reading.Refused r p = cc in
-      rw (← z) (Read.other_kind t (λ h. n (only token.kind h)))
+  pub taken_refused : {r : Refused} (reader : Reader) (buffer : List ℕ) → ((j : TokenKind) → Takes reader j → j ≡ k)
+      → Untaken text token k r → Read reader text token buffer (reading.Refused r.refusal r.place) buffer
+  taken_refused reader buffer only (Untaken.missing b) = Read.missing b
+  taken_refused reader buffer only (Untaken.other_kind t n) = Read.other_kind t (λ h. n (only token.kind h))
 
 pub only_string : (j : TokenKind) → Takes Reader.string j → j ≡ kind.String
 only_string j Takes.a_string = refl
@@ -91,22 +75,13 @@ tail_is text token {x} {w} e =
     go (suc n) (y ∷ t) q e = let m : suc n - 1 ≡ n = omega arith in rw m (cc)
 
 module _ {text : List ℕ} {token : Token} where
-  name_there : {m : NameCheck} {n : NameKind} → HereName text token m → m ≡ name.Named n
-      → There text token × (x : ℕ) × Sigil n token.kind x
-  name_there (HereName.missing b) e = differ (cc)
-  name_there (HereName.no_name t h) e = differ (cc)
-  name_there {n = n} (HereName.named {n = o} {x = x} t s) e =
-      let z : o ≡ n = cc in (t, x, subst (λ (i : NameKind). Sigil i token.kind x) z s)
+  name_there : {n : NameKind} → HereName text token n → There text token × (x : ℕ) × Sigil n token.kind x
+  name_there (HereName.named {x = x} t s) = (t, x, s)
 
-  pub name_refused : {m : NameCheck} {r : Refusal} {p : ℕ} (buffer : List ℕ) → HereName text token m → m ≡ name.Refused r p
-      → ReadsName text token buffer (named.Refused r p) buffer
-  name_refused {r = r} {p = p} buffer (HereName.missing {r = x} {p = y} b) e =
-      let z : named.Refused x y ≡ named.Refused r p = cc in
-      rw (← z) (ReadsName.no_name (Read.missing b))
-  name_refused {r = r} {p = p} buffer (HereName.no_name t h) e =
-      let z : named.Refused NotThatKind no_place ≡ named.Refused r p = cc in
-      rw (← z) (ReadsName.no_name (Read.other_kind t h))
-  name_refused buffer (HereName.named t s) e = differ (cc)
+  pub name_refused : {r : Refused} (buffer : List ℕ) → Unnamed text token r
+      → ReadsName text token buffer (named.Refused r.refusal r.place) buffer
+  name_refused buffer (Unnamed.missing b) = ReadsName.no_name (Read.missing b)
+  name_refused buffer (Unnamed.no_name t h) = ReadsName.no_name (Read.other_kind t h)
 
 -- a token whose name is of the kind n
 module _ {n : NameKind} {text : List ℕ} {token : Token} (t : There text token × (x : ℕ) × Sigil n token.kind x) where
@@ -138,25 +113,25 @@ module _ {n : NameKind} {text : List ℕ} {token : Token} (t : There text token 
 -- ---- from what `taken` and `name_kind` answer
 
 module _ {text : List ℕ} {token : Token} where
-  module _ (h : Taken text token kind.String presence.There) where
+  module _ (t : There text token) (e : token.kind ≡ kind.String) where
     pub string_at : Quoted text token.offset token.len
-    string_at = string_quoted (taken_there h refl)
+    string_at = string_quoted (t, e)
 
     pub string_read : {buffer after : List ℕ} {r : Reading} → Quotes (own text token) token.offset buffer r after
         → Read Reader.string text token buffer r after
-    string_read q = string_reads (taken_there h refl) q
+    string_read q = string_reads (t, e) q
 
-  module _ {n : NameKind} (h : HereName text token (name.Named n)) where
+  module _ {n : NameKind} (h : HereName text token n) where
     pub name_at : Sigiled n text token.offset token.len
-    name_at = name_sigiled (name_there h refl)
+    name_at = name_sigiled (name_there h)
 
     pub name_read : {buffer after : List ℕ} {r : NameReading}
         → NameHanded n (tail text token.offset token.len) token.offset buffer r after
         → ReadsName text token buffer r after
-    name_read q = name_reads (name_there h refl) q
+    name_read q = name_reads (name_there h) q
 
 pub ruleset sources = (src_reads, Read.missing)
 
-pub ruleset strings = (taken_refused, only_string, string_at, string_read)
+pub ruleset strings = (taken_refused, only_string, string_read)
 
 pub ruleset names = (name_refused, name_at)

@@ -8,8 +8,7 @@ ghost use Rattle.wat_values.specs.Values.{Reader};
 ghost use Rattle.wat_values.specs.Reading.{Read, ReadsName};
 
 use lex_classes::Table;
-use read_token::{NameCheck, TokenCheck};
-use wat::{Token, TokenKind};
+use wat::{Refused, Token, TokenKind};
 use wat_values::{NameReading, Reading};
 
 // A token's own bytes: the reader of any kind. It never copies.
@@ -19,8 +18,8 @@ pub fn src(text: &[u8], token: Token) -> Reading
 {
     let t = Table::new();
     match read_token::present(text, token, &t) {
-        TokenCheck::Refused { refusal, place } => Reading::Refused { refusal, place },
-        TokenCheck::There => Reading::Text {
+        Err(Refused { refusal, place }) => Reading::Refused { refusal, place },
+        Ok(()) => Reading::Text {
             start: token.offset,
             len: token.len as usize,
         },
@@ -34,8 +33,8 @@ pub fn string(text: &[u8], token: Token, buffer: &mut [u8]) -> Reading
 {
     let t = Table::new();
     match read_token::taken(text, token, TokenKind::String, &t) {
-        TokenCheck::Refused { refusal, place } => Reading::Refused { refusal, place },
-        TokenCheck::There => {
+        Err(Refused { refusal, place }) => Reading::Refused { refusal, place },
+        Ok(()) => {
             let offset = token.offset;
             let len = token.len as usize;
             read_names::quoted(text, offset, len, buffer, &t)
@@ -50,8 +49,8 @@ pub fn name(text: &[u8], token: Token, buffer: &mut [u8]) -> NameReading
 {
     let t = Table::new();
     match read_token::name_kind(text, token, &t) {
-        NameCheck::Refused { refusal, place } => NameReading::Refused { refusal, place },
-        NameCheck::Named(kind) => {
+        Err(Refused { refusal, place }) => NameReading::Refused { refusal, place },
+        Ok(kind) => {
             let offset = token.offset;
             let len = token.len as usize;
             read_names::name(text, offset, len, kind, buffer, &t)

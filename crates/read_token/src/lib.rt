@@ -2,34 +2,38 @@
 
 #![tactic(auto)]
 
-ghost use Rattle.std.specs.Prelude.{◌≡◌, true};
+ghost use Rattle.std.specs.Prelude.{◌≡◌, true, OnOk, IfOk, IfErr};
 ghost use Rattle.wat.specs.Calls.{Stands};
 ghost use Rattle.wat_values.specs.Reading.{There};
-ghost use Rattle.read_token.specs.Here.{Here, Taken, HereNumber, HereName};
+ghost use Rattle.read_token.specs.Here.{Misses, Untaken, HereNumber, Denied, HereName, Unnamed};
 
 use lex_classes::Table;
-use wat::{FloatKind, IntegerKind, Refusal, Refused, Settings, Token, TokenKind};
+use wat::{NumberKind, Refusal, Refused, Settings, Token, TokenKind};
 use wat_values::{NO_PLACE, NameKind};
 
-// Whether a token is there: 1 to 4 at its offset, and 30.
-#[derive(Clone, Copy)]
-pub enum TokenCheck {
-    There,
-    Refused { refusal: Refusal, place: usize },
-}
+// 30.
+const NOT_THAT_TOKEN: Refused = Refused {
+    refusal: Refusal::NotThatToken,
+    place: NO_PLACE,
+};
 
+// 31.
+const NOT_THAT_KIND: Refused = Refused {
+    refusal: Refusal::NotThatKind,
+    place: NO_PLACE,
+};
+
+// Whether a token is there: 1 to 4 at its offset, and 30.
 #[tactic(auto, using(crate::proofs::PresentLaws::presents))]
-pub fn present(text: &[u8], token: Token, t: &Table) -> TokenCheck
-    ensures { Here text.now token result }
+pub fn present(text: &[u8], token: Token, t: &Table) -> Result<(), Refused>
+    ensures ok { OnOk result (There text.now token) }
+    ensures err { IfErr result (Misses text.now token) }
 {
     if alone(text, token, t) {
-        return TokenCheck::There;
+        return Ok(());
     }
-    let offset = token.offset;
-    match lex_entry::check(text, offset) {
-        Err(Refused { refusal, place }) => TokenCheck::Refused { refusal, place },
-        Ok(()) => present_at(text, token, t),
-    }
+    lex_entry::check(text, token.offset)?;
+    present_at(text, token, t)
 }
 
 // Whether the token is the whole of the text, and a word or a plain string, and so is there: no other check is needed.
@@ -54,106 +58,64 @@ fn alone(text: &[u8], token: Token, t: &Table) -> bool
 
 // 30, at an offset that stands: lexing there, leniently, gives another kind or another length, or nothing.
 #[tactic(auto, using(crate::proofs::PresentLaws::presents))]
-fn present_at(text: &[u8], token: Token, t: &Table) -> TokenCheck
+fn present_at(text: &[u8], token: Token, t: &Table) -> Result<(), Refused>
     requires stands { Stands text.now token.offset }
-    ensures { Here text.now token result }
+    ensures ok { OnOk result (There text.now token) }
+    ensures err { IfErr result (Misses text.now token) }
 {
     let offset = token.offset;
     if offset == text.len() {
-        return TokenCheck::Refused {
-            refusal: Refusal::NotThatToken,
-            place: NO_PLACE,
-        };
+        return Err(NOT_THAT_TOKEN);
     }
     let Some(step) = lex_token::parse_kind(text, offset, Settings::LENIENT, t) else {
-        return TokenCheck::Refused {
-            refusal: Refusal::NotThatToken,
-            place: NO_PLACE,
-        };
+        return Err(NOT_THAT_TOKEN);
     };
     if step.kind.kind() != token.kind {
-        return TokenCheck::Refused {
-            refusal: Refusal::NotThatToken,
-            place: NO_PLACE,
-        };
+        return Err(NOT_THAT_TOKEN);
     }
     if step.end - offset != token.len as usize {
-        return TokenCheck::Refused {
-            refusal: Refusal::NotThatToken,
-            place: NO_PLACE,
-        };
+        return Err(NOT_THAT_TOKEN);
     }
-    TokenCheck::There
+    Ok(())
 }
 
 // As `present`, and then 31: its kind is not the one wanted.
 #[tactic(auto, using(crate::proofs::KindLaws::takens))]
-pub fn taken(text: &[u8], token: Token, wanted: TokenKind, t: &Table) -> TokenCheck
-    ensures { Taken text.now token wanted result }
+pub fn taken(text: &[u8], token: Token, wanted: TokenKind, t: &Table) -> Result<(), Refused>
+    ensures ok { OnOk result (There text.now token × (token.kind ≡ wanted)) }
+    ensures err { IfErr result (Untaken text.now token wanted) }
 {
-    match present(text, token, t) {
-        TokenCheck::Refused { refusal, place } => TokenCheck::Refused { refusal, place },
-        TokenCheck::There => {
-            if token.kind == wanted {
-                return TokenCheck::There;
-            }
-            TokenCheck::Refused {
-                refusal: Refusal::NotThatKind,
-                place: NO_PLACE,
-            }
-        }
+    present(text, token, t)?;
+    if token.kind != wanted {
+        return Err(NOT_THAT_KIND);
     }
+    Ok(())
 }
 
 // The kind of a number that is there; else 1 to 4, 30 or 31.
-#[derive(Clone, Copy)]
-pub enum NumberKind {
-    Refused { refusal: Refusal, place: usize },
-    Integer(IntegerKind),
-    Float(FloatKind),
-}
-
 #[tactic(auto, using(crate::proofs::KindLaws::numbers))]
-pub fn number_kind(text: &[u8], token: Token, t: &Table) -> NumberKind
-    ensures { HereNumber text.now token result }
+pub fn number_kind(text: &[u8], token: Token, t: &Table) -> Result<NumberKind, Refused>
+    ensures ok { IfOk result (HereNumber text.now token) }
+    ensures err { IfErr result (Denied text.now token) }
 {
-    match present(text, token, t) {
-        TokenCheck::Refused { refusal, place } => NumberKind::Refused { refusal, place },
-        TokenCheck::There => {
-            let kind = token.kind;
-            match kind {
-                TokenKind::Integer(i) => NumberKind::Integer(i),
-                TokenKind::Float(f) => NumberKind::Float(f),
-                _ => NumberKind::Refused {
-                    refusal: Refusal::NotThatKind,
-                    place: NO_PLACE,
-                },
-            }
-        }
+    present(text, token, t)?;
+    match token.kind {
+        TokenKind::Integer(i) => Ok(NumberKind::Integer(i)),
+        TokenKind::Float(f) => Ok(NumberKind::Float(f)),
+        _ => Err(NOT_THAT_KIND),
     }
 }
 
 // Whose name a token that is there has; else 1 to 4, 30 or 31.
-#[derive(Clone, Copy)]
-pub enum NameCheck {
-    Refused { refusal: Refusal, place: usize },
-    Named(NameKind),
-}
-
 #[tactic(auto, using(crate::proofs::KindLaws::names))]
-pub fn name_kind(text: &[u8], token: Token, t: &Table) -> NameCheck
-    ensures { HereName text.now token result }
+pub fn name_kind(text: &[u8], token: Token, t: &Table) -> Result<NameKind, Refused>
+    ensures ok { IfOk result (HereName text.now token) }
+    ensures err { IfErr result (Unnamed text.now token) }
 {
-    let kind = token.kind;
-    match present(text, token, t) {
-        TokenCheck::Refused { refusal, place } => NameCheck::Refused { refusal, place },
-        TokenCheck::There => match kind {
-            TokenKind::Id => NameCheck::Named(NameKind::Id),
-            TokenKind::Annotation => NameCheck::Named(NameKind::Annotation),
-            _ => NameCheck::Refused {
-                refusal: Refusal::NotThatKind,
-                place: NO_PLACE,
-            },
-        },
+    present(text, token, t)?;
+    match token.kind {
+        TokenKind::Id => Ok(NameKind::Id),
+        TokenKind::Annotation => Ok(NameKind::Annotation),
+        _ => Err(NOT_THAT_KIND),
     }
 }

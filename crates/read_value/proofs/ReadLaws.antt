@@ -4,7 +4,7 @@ use mathlib.Core.Path.{◌≡◌, sym, subst}
 use mathlib.Core.List.{List}
 use native.Mathlib.Omega.{arith}
 use lib.Seq.{slice}
-use Rattle.wat.specs.declared.{IntegerKind.IntegerKind, FloatKind.FloatKind, Token.Token, Refusal.Refusal}
+use Rattle.wat.specs.declared.{IntegerKind.IntegerKind, FloatKind.FloatKind, Token.Token, Refused.Refused}
 use Rattle.wat.specs.declared.Refusal.TheVariants.{NotThatKind}
 use Rattle.wat.specs.declared.TokenKind.TheVariants as kind
 use Rattle.wat_values.specs.declared.IntegerValue.{IntegerValue}
@@ -22,7 +22,7 @@ module _ {N : ℕ} {text : List ℕ} {token : Token} where
       → Worded N (slice token.offset (token.offset + token.len) text) r → ReadsWord N text token r
   word_read {i} {r} t e x = ReadsWord.integer t e (subst (λ (w : List ℕ). Worded N w r) (sym (own_slice t)) x)
 
-  pub word_denied : {r : Refusal} {p : ℕ} → Denied text token r p → ReadsWord N text token (value.Refused r p)
+  pub word_denied : {r : Refused} → Denied text token r → ReadsWord N text token (value.Refused r.refusal r.place)
   word_denied (Denied.missing b) = ReadsWord.missing b
   word_denied (Denied.no_number t n m) = ReadsWord.other_kind t n
 

@@ -11,8 +11,7 @@ ghost use Rattle.read_parts.specs.Handing.{At};
 ghost use Rattle.read_value.specs.Amounts.{Amounts, greatest, word_of};
 
 use lex_classes::Table;
-use read_token::NumberKind;
-use wat::{IntegerKind, Refusal, Sign, Token};
+use wat::{IntegerKind, NumberKind, Refusal, Refused, Sign, Token};
 use wat_values::{IntegerValue, NO_PLACE};
 
 // The word of 32 bits.
@@ -36,12 +35,12 @@ fn integer_word(text: &[u8], token: Token, max: u64) -> IntegerValue
 {
     let t = Table::new();
     match read_token::number_kind(text, token, &t) {
-        NumberKind::Refused { refusal, place } => IntegerValue::Refused { refusal, place },
-        NumberKind::Float(_) => IntegerValue::Refused {
+        Err(Refused { refusal, place }) => IntegerValue::Refused { refusal, place },
+        Ok(NumberKind::Float(_)) => IntegerValue::Refused {
             refusal: Refusal::NotThatKind,
             place: NO_PLACE,
         },
-        NumberKind::Integer(kind) => {
+        Ok(NumberKind::Integer(kind)) => {
             let at = token.offset;
             let end = at + token.len as usize;
             word_at(text, at, end, kind, max)

@@ -1,5 +1,9 @@
+use Rattle.std.proofs.Common.{subst}
+use Rattle.read_token.specs.Here.{HereNumber}
 use Rattle.read_float.proofs.ReadLaws.{payload_signed}
 use Rattle.read_float.proofs.float_sign.Goals as goal
 
 pub returns-in-NanVal : goal.returns-in-NanVal
-returns-in-NanVal c = let h = c.in-Float.ensures in payload_signed h.0 h.1 c.in-NanVal.is
+returns-in-NanVal c =
+    let h = subst (HereNumber c.args.text.now c.args.token) c.in-Ok-Float.field-0-is c.in-Ok-Float.ensures.ok in
+    payload_signed h.0 h.1 c.in-NanVal.is
