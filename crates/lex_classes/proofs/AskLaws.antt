@@ -13,7 +13,6 @@ use Rattle.wat.specs.StringModel.{hex_of}
 use Rattle.wat.proofs.Basics.{between_in, between_true, or_split, or_no}
 use Rattle.wat.specs.Utf8Model.{pick}
 use Rattle.wat.proofs.Utf8Rows.{pick_both}
-use Rattle.lex_classes.specs.Ask.{digit_of}
 
 -- n numbers from lo on all pass a test
 abbrev pub all_pass : (ℕ → Bool) → ℕ → ℕ → Bool
@@ -69,8 +68,11 @@ module _ (b : ℕ) where
       (λ p. let w = between_true (byte "a") (byte "f") b p in is (b - 0x57) (omega arith) (omega arith) (hex_lower w.0 w.1))
       (or_split (between (byte "A") (byte "F") b) (between (byte "a") (byte "f") b) e)) (or_split (between (byte "0") (byte "9") b) _ e)
 
-  pub hex_digit : digit true b ≡ true → hex_of b ≡ digit_of (value b)
-  hex_digit e = let (q, h) = hex_is e in rw (lt-ltb (value b) 16 h, digit_of) q
+  pub hex_digit : (d : ℕ) → d ≡ value b → digit true b ≡ true → hex_of b ≡ some d
+  hex_digit d q e = rw q (hex_is e).0
+
+  pub hex_small : digit true b ≡ true → value b < 16
+  hex_small e = (hex_is e).1
 
   pub hex_none : digit true b ≡ false → hex_of b ≡ none
   unfolding hex_of digit
@@ -90,4 +92,4 @@ module _ (b : ℕ) where
       )
 
 -- hexadecimal digits
-pub ruleset hexes = (hex_digit, hex_none, digit_far)
+pub ruleset hexes = (hex_digit, hex_small, hex_none, digit_far)

@@ -1,11 +1,6 @@
 -- What is asked of a byte or a character beside wat's tests.
-use Rattle.std.specs.Prelude.{ℕ, Bool, true, false, ◌&&◌, ◌||◌, not, ltb, eqb}
-use Rattle.std.proofs.Math.Option.{Option, none, some}
+use Rattle.std.specs.Prelude.{ℕ, Bool, ◌&&◌, ◌||◌, not, eqb}
 use Rattle.wat.specs.Bytes.{byte, between}
-
--- a digit's value as a number: 16 is none
-abbrev pub digit_of : ℕ → Option ℕ
-digit_of n = elim (ltb n 16) [ true ↦ some n | false ↦ none ]
 
 -- an ASCII character that stands in a string for itself: not refused by 12, no `"` and no `\`
 unfoldable pub raw : ℕ → Bool

@@ -3,13 +3,14 @@
 
 #![tactic(auto)]
 
-ghost use Rattle.std.specs.Prelude.{◌≡◌, ℕ, Bool, true, false, ◌+◌, ◌*◌, ◌/◌, ◌%◌, ◌^◌, ◌≤◌, ◌<◌, length};
+ghost use Rattle.std.specs.Prelude.{◌≡◌, ℕ, Bool, true, false, ◌+◌, ◌*◌, ◌/◌, ◌%◌, ◌^◌, ◌≤◌, ◌<◌, length, IfSome, IfNone};
+ghost use Rattle.std.proofs.Math.Option.{some, none};
 ghost use Rattle.wat.specs.Numbers.{digit};
 ghost use Rattle.wat.specs.Chars.{idchar, space, letter, is_scalar, control, confusing};
 ghost use Rattle.wat.specs.LexModel.{family};
 ghost use Rattle.wat.specs.StringModel.{hex_of};
 ghost use Rattle.lex_classes.specs.Table.{Classes};
-ghost use Rattle.lex_classes.specs.Ask.{digit_of, raw, confusing_bytes};
+ghost use Rattle.lex_classes.specs.Ask.{raw, confusing_bytes};
 ghost use Rattle.lex_classes.specs.Scan.{Scanned, First, Finds, alike};
 
 use wat::Family;
@@ -145,19 +146,21 @@ impl Table {
         class == DI
     }
 
-    // The value of a character that is a hexadecimal digit, or 16 for any other.
+    // The value of a character that is a hexadecimal digit.
     #[tactic(auto, using(crate::proofs::AskLaws::hexes))]
-    pub fn to_hex(&self, c: u32) -> u8
-        ensures { hex_of c ≡ digit_of result }
+    pub fn to_hex(&self, c: u32) -> Option<u8>
+        ensures digit { IfSome result (λ d. hex_of c ≡ some d) }
+        ensures small { IfSome result (λ d. d < 16) }
+        ensures other { IfNone result (hex_of c ≡ none) }
     {
         if 0xff < c {
-            return 16;
+            return None;
         }
         let b = c as u8;
         if self.is_digit(true, b) {
-            return hex_value(b) as u8;
+            return Some(hex_value(b) as u8);
         }
-        16
+        None
     }
 
     #[tactic(auto, unfolding(wat::specs::Chars::control))]

@@ -24,8 +24,6 @@ use Rattle.utf8_chars.specs.Decoding.{Character}
 use Rattle.utf8_chars.proofs.DecodeLaws.{decoded_char}
 use Rattle.utf8_chars.proofs.CharBytes.{wide_scalar}
 use Rattle.buffers.proofs.EncodeLaws.{long_1, long_2, long_3, long_4}
-use Rattle.lex_classes.specs.Ask.{digit_of}
-use Rattle.lex_escapes.specs.Elements.{letter_of}
 
 -- an ASCII byte is a character by itself
 pub ascii_character : (s : List ℕ) (at v : ℕ) → at < length s → get_or s at 0 < 0x80 → v ≡ get_or s at 0 → Character s at v 1
@@ -61,24 +59,6 @@ encode_short v =
     ⊎_elim (λ k. omega (arith, long_2 v h k)) (λ k.
     ⊎_elim (λ l. omega (arith, long_3 v k l)) (λ l. omega (arith, long_4 v l))
     (below v 0x10000)) (below v 0x800)) (below v 0x80)
-
--- what `to_hex` says of a character c whose number is x
-
-module _ (c x d : ℕ) (q : x ≡ c) (e : hex_of x ≡ digit_of d) where
-  pub digit_is : d < 16 → hex_of c ≡ some d
-  digit_is h = rw (q, lt-ltb d 16 h, digit_of) at e
-
-  pub digit_not : 16 ≤ d → hex_of c ≡ none
-  digit_not h = rw (q, le-ltb d 16 h, digit_of) at e
-
--- what `letter` says
-
-pub letter_is : {o : Option ℕ} (r : ℕ) → o ≡ letter_of r → (r ≡ 0 → ⊥) → o ≡ some r
-letter_is zero e f = absurd (f refl)
-letter_is (suc r) e f = e
-
-pub letter_not : {o : Option ℕ} (r : ℕ) → o ≡ letter_of r → r ≡ 0 → o ≡ none
-letter_not r e f = e ∙ ap letter_of f
 
 pub scalar_small : (n : ℕ) → is_scalar n ≡ true → n < 0x110000
 scalar_small n e = ⊎_elim (λ h. omega arith) (λ h. omega arith) (scalar_split n e)

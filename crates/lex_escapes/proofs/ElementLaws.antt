@@ -28,7 +28,7 @@ use Rattle.lex_classes.proofs.ConfusingLaws.{confusing_not}
 use Rattle.wat.proofs.ElementFaults.{high_raw}
 use Rattle.utf8_chars.proofs.DecodeLaws.{decoded_end}
 use Rattle.lex_escapes.proofs.CharLaws.{ascii_character, alone, alone_hex, high, encoded, encode_short}
-use Rattle.lex_escapes.proofs.CharLaws.{digit_is, digit_not, letter_is, letter_not, scalar_small}
+use Rattle.lex_escapes.proofs.CharLaws.{scalar_small}
 
 -- ---- an answer and its bounds, by the place in the text
 
@@ -296,11 +296,11 @@ pub ruleset closes = (left_long, close_end, close_yes, close_no, encode_short, s
 
 pub ruleset numbers = (left_long, says_same, number_scalar, read_value, read_lone, number_big, number_double)
 
-pub ruleset firsts = (left_long, says_same, first_end, first_yes, first_no, digit_is, digit_not)
+pub ruleset firsts = (left_long, says_same, first_end, first_yes, first_no)
 
 pub ruleset braces = (left_long, says_same, brace_end, brace_yes, brace_no)
 
-pub ruleset seconds = (left_long, second_end, second_yes, second_no, digit_is, digit_not)
+pub ruleset seconds = (left_long, second_end, second_yes, second_no)
 
 pub ruleset escaped = (
   left_long,
@@ -310,10 +310,6 @@ pub ruleset escaped = (
   escape_letter,
   escape_digit,
   escape_no,
-  digit_is,
-  digit_not,
-  letter_is,
-  letter_not,
 )
 
 pub ruleset wides = (left_long, read_nothing, wide_hidden, wide_raw, wide_long)

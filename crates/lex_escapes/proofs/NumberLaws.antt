@@ -14,7 +14,6 @@ use Rattle.wat.specs.StringModel.{hex_of, close, digits}
 use Rattle.wat.proofs.HexDigits.{of_hex, hex_small, no_digit, goes_split}
 use Rattle.wat.proofs.Hexnums.{under, under_twice, on_digit, on_big, on_stop}
 use Rattle.lex_escapes.specs.Elements.{consumed, Counted}
-use Rattle.lex_escapes.proofs.CharLaws.{digit_is, digit_not}
 use Rattle.wat.specs.declared.Num.{Num}
 use Rattle.wat.specs.declared.Num.TheVariants.{Big, Double}
 
@@ -99,4 +98,4 @@ module _ (σ : Settings) (s : List ℕ) (at first i v : ℕ) (u : Bool) (r : Run
 
 -- what the loop keeps, and its answers
 pub ruleset runs =
-    (run_start, run_end, run_double, run_under, run_stop, run_digit, run_big, digit_is, digit_not)
+    (run_start, run_end, run_double, run_under, run_stop, run_digit, run_big)

@@ -1,6 +1,5 @@
 -- What the readers of one element answer, in the terms of wat's model.
-use Rattle.std.specs.Prelude.{ℕ, zero, suc, ◌+◌, ◌≤◌, ◌<◌, ◌≡◌, List, [], ◌∷◌, length}
-use Rattle.std.proofs.Math.Option.{Option, none, some}
+use Rattle.std.specs.Prelude.{ℕ, suc, ◌+◌, ◌≤◌, ◌<◌, ◌≡◌, List, [], ◌∷◌, length}
 use Rattle.wat.specs.declared.{Fault.Fault, Num.Num}
 use Rattle.wat.specs.declared.Num.TheVariants.{Is, Lone, Big, Double}
 use Rattle.wat.specs.StringModel as model
@@ -19,11 +18,6 @@ pub record Counted (t : List ℕ) (m r : Num) : Type 0 where
   pub is : r ≡ m
   pub some : 1 ≤ consumed r
   pub fits : consumed r ≤ 1 + length t
-
--- the byte of a letter: 0 is none
-abbrev pub letter_of : ℕ → Option ℕ
-letter_of zero = none
-letter_of (suc n) = some (suc n)
 
 -- at the front of t stands an element of n bytes for v
 pub record Element (t : List ℕ) (m : model.Read) (n : ℕ) (v : List ℕ) : Type 0 where

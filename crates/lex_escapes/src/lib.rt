@@ -4,11 +4,14 @@
 
 #![tactic(auto)]
 
-ghost use Rattle.std.specs.Prelude.{◌≡◌, ◌+◌, ◌≤◌, ◌<◌, length, get_or, drop};
+ghost use Rattle.std.specs.Prelude.{◌≡◌, ◌+◌, ◌≤◌, ◌<◌, length, get_or, drop, IfSome, IfNone};
+ghost use Rattle.std.proofs.Math.Option.{some, none};
+ghost use Rattle.wat.specs.Faults.{fault};
+ghost use Rattle.wat.specs.declared.LexError.TheVariants.{UnexpectedEof};
 ghost use Rattle.wat.specs.Strings.{escapes};
 ghost use Rattle.wat.specs.StringModel as model;
 ghost use Rattle.utf8_chars.specs.Decoding.{Decodes};
-ghost use Rattle.lex_escapes.specs.Elements.{letter_of, Says};
+ghost use Rattle.lex_escapes.specs.Elements.{Says};
 
 use lex_classes::Table;
 use utf8_chars::Char;
@@ -32,11 +35,7 @@ pub fn element(s: &[u8], at: usize, settings: Settings, t: &Table) -> Read
     ensures { Says (drop at s.now) (model.read settings (drop at s.now)) result }
 {
     if s.len() <= at {
-        return Read::Refused(Fault {
-            error: LexError::UnexpectedEof,
-            place: 0,
-            after: 0,
-        });
+        return Read::Refused(ends(0));
     }
     let b = s[at];
     if 0x80 <= b {
@@ -66,11 +65,7 @@ fn wide_element(s: &[u8], at: usize, settings: Settings) -> Read
     ensures { Says (drop at s.now) (model.read settings (drop at s.now)) result }
 {
     let Some(Char { value, len }) = utf8_chars::decode(s, at) else {
-        return Read::Refused(Fault {
-            error: LexError::UnexpectedEof,
-            place: 0,
-            after: 0,
-        });
+        return Read::Refused(ends(0));
     };
     if hides(settings, value) {
         return Read::Refused(Fault {
@@ -101,22 +96,16 @@ fn escape(s: &[u8], at: usize, settings: Settings, t: &Table) -> Read
         (model.escape_by settings (model.peek (drop (at + 1) s.now))) result }
 {
     let Some(Char { value, len }) = must_char(s, at + 1) else {
-        return Read::Refused(Fault {
-            error: LexError::UnexpectedEof,
-            place: 1,
-            after: 1,
-        });
+        return Read::Refused(ends(1));
     };
     if value == u32::from(b'u') {
         return unicode::open_brace(s, at, settings, t);
     }
-    let v = letter(value);
-    if v != 0 {
-        return Read::Byte { value: v, len: 2 };
+    if let Some(value) = letter(value) {
+        return Read::Byte { value, len: 2 };
     }
-    let d = t.to_hex(value);
-    if d < 16 {
-        return second_digit(s, at, d, t);
+    if let Some(high) = t.to_hex(value) {
+        return second_digit(s, at, high, t);
     }
     Read::Refused(Fault {
         error: LexError::InvalidStringEscape(value),
@@ -125,19 +114,20 @@ fn escape(s: &[u8], at: usize, settings: Settings, t: &Table) -> Read
     })
 }
 
-// The byte that a letter after `\` stands for, or 0 for any other character.
+// The byte that a letter after `\` stands for.
 #[tactic(auto, unfolding(wat::specs::Strings::escapes))]
-fn letter(c: u32) -> u8
-    ensures { model.letter_of escapes c ≡ letter_of result }
+fn letter(c: u32) -> Option<u8>
+    ensures letter { IfSome result (λ b. model.letter_of escapes c ≡ some b) }
+    ensures other { IfNone result (model.letter_of escapes c ≡ none) }
 {
     match c {
-        0x74 => b'\t', // t
-        0x6E => b'\n', // n
-        0x72 => b'\r', // r
-        0x22 => b'"',
-        0x27 => b'\'',
-        0x5C => b'\\',
-        _ => 0,
+        0x74 => Some(b'\t'), // t
+        0x6E => Some(b'\n'), // n
+        0x72 => Some(b'\r'), // r
+        0x22 => Some(b'"'),
+        0x27 => Some(b'\''),
+        0x5C => Some(b'\\'),
+        _ => None,
     }
 }
 
@@ -149,16 +139,11 @@ fn second_digit(s: &[u8], at: usize, high: u8, t: &Table) -> Read
         (model.second_by high (model.peek (drop (at + 2) s.now))) result }
 {
     let Some(Char { value, len }) = must_char(s, at + 2) else {
-        return Read::Refused(Fault {
-            error: LexError::UnexpectedEof,
-            place: 2,
-            after: 2,
-        });
+        return Read::Refused(ends(2));
     };
-    let d = t.to_hex(value);
-    if d < 16 {
+    if let Some(low) = t.to_hex(value) {
         return Read::Byte {
-            value: high * 16 + d,
+            value: high * 16 + low,
             len: 3,
         };
     }
@@ -167,6 +152,17 @@ fn second_digit(s: &[u8], at: usize, high: u8, t: &Table) -> Read
         place: 2,
         after: 2 + len,
     })
+}
+
+// The text ends after so many bytes of an element.
+fn ends(n: usize) -> Fault
+    ensures { result ≡ fault UnexpectedEof n n }
+{
+    Fault {
+        error: LexError::UnexpectedEof,
+        place: n,
+        after: n,
+    }
 }
 
 // The next character, or nothing. An ASCII one needs no decoding.

@@ -4,7 +4,7 @@ ghost use Rattle.wat.specs.Chars.{is_scalar};
 ghost use Rattle.wat.specs.StringModel as model;
 ghost use Rattle.lex_escapes.specs.Elements.{consumed, Counted, Says};
 
-use super::{Read, must_char};
+use super::{Read, ends, must_char};
 use lex_classes::Table;
 use utf8_chars::Char;
 use wat::{Fault, LexError, Num, Settings};
@@ -17,11 +17,7 @@ pub fn open_brace(s: &[u8], at: usize, settings: Settings, t: &Table) -> Read
         (model.brace_by settings (model.peek (drop (at + 2) s.now))) result }
 {
     let Some(Char { value, len }) = must_char(s, at + 2) else {
-        return Read::Refused(Fault {
-            error: LexError::UnexpectedEof,
-            place: 2,
-            after: 2,
-        });
+        return Read::Refused(ends(2));
     };
     if value == u32::from(b'{') {
         return first_digit(s, at, settings, t);
@@ -44,15 +40,10 @@ fn first_digit(s: &[u8], at: usize, settings: Settings, t: &Table) -> Read
         (model.first_by settings (model.peek (drop (at + 3) s.now))) result }
 {
     let Some(Char { value, len }) = must_char(s, at + 3) else {
-        return Read::Refused(Fault {
-            error: LexError::UnexpectedEof,
-            place: 3,
-            after: 3,
-        });
+        return Read::Refused(ends(3));
     };
-    let d = t.to_hex(value);
-    if d < 16 {
-        return unicode_value(s, at, u32::from(d), settings, t);
+    if let Some(first) = t.to_hex(value) {
+        return unicode_value(s, at, u32::from(first), settings, t);
     }
     Read::Refused(Fault {
         error: LexError::InvalidHexDigit(value),
@@ -112,11 +103,7 @@ fn close_brace(s: &[u8], at: usize, value: u32, len: usize) -> Read
         },
     ) = must_char(s, at + (3 + len))
     else {
-        return Read::Refused(Fault {
-            error: LexError::UnexpectedEof,
-            place: 3 + len,
-            after: 3 + len,
-        });
+        return Read::Refused(ends(3 + len));
     };
     if found == u32::from(b'}') {
         return Read::Char {
@@ -154,10 +141,9 @@ fn hexnum(s: &[u8], at: usize, first: u32, settings: Settings, t: &Table) -> Num
             under = true;
             i += 1;
         } else {
-            let d = t.to_hex(u32::from(b));
-            if 16 <= d {
+            let Some(d) = t.to_hex(u32::from(b)) else {
                 return close(under, value, 1 + (i - at));
-            }
+            };
             if 0x1000_0000 <= value {
                 return Num::Big(1 + (i - at));
             }

@@ -12,9 +12,10 @@ use Rattle.wat.specs.StringModel.{quote, read}
 use Rattle.buffers.specs.Writing.{Put}
 use Rattle.buffers.proofs.PutLaws.{put_one, put_front, put_back, put_length}
 use Rattle.lex_escapes.specs.Elements.{Element, Refuses}
-use Rattle.lex_strings.specs.Raw.{Raws}
+use Rattle.std.specs.Prelude.{Bool, true, Option, is_some, IfSome}
+use Rattle.lex_strings.specs.Raw.{Raws, Pairs}
 use Rattle.lex_strings.specs.Parsing.{string, Closes, value_of, Copied}
-use Rattle.lex_strings.proofs.PassLaws.{Passed, Onward, raws_onward, element_onward}
+use Rattle.lex_strings.proofs.PassLaws.{Passed, Onward, paired, raws_onward, element_onward}
 use Rattle.lex_strings.proofs.PassLaws.{passed_none, passed_quote, passed_refused, passed_value}
 
 -- raw characters stand for as many bytes as they are
@@ -52,6 +53,10 @@ module _ {s : List ℕ} {at i n : ℕ} (x : Measured s at i n) where
       {k m : ℕ} {v : List ℕ} → Element (drop i s) (read lenient (drop i s)) k v → m ≡ length v
       → Measured s at (i + k) (n + m)
   measured_element r q = measured_on (element_onward lenient s r) q
+
+  pub measured_pair :
+      {b : Bool} (o : Option ℕ) → IfSome o (Pairs (drop i s)) → b ≡ is_some o → b ≡ true → Measured s at (i + 3) (n + 1)
+  measured_pair o p q e = measured_element ((paired o p q e).1 lenient) refl
 
   pub measured_below : n ≤ length s
   measured_below = omega (arith, x.long, x.passed.short, x.passed.within)

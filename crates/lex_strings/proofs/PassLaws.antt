@@ -7,13 +7,14 @@ use lib.ListN.{length, take, drop, length-drop, length-append, take-append-drop}
 use lib.Seq.{drop-drop, length-take-le}
 use Rattle.wat.specs.declared.Fault.{Fault}
 use Rattle.wat.specs.Faults.{shift}
-use Rattle.wat.proofs.Basics.{fault_same}
+use Rattle.wat.proofs.Basics.{fault_same, never}
 use Rattle.wat.specs.declared.Settings.{Settings}
 use Rattle.wat.specs.StringModel.{quote, refused, read}
 use Rattle.wat.specs.RunModel.{StringRead, closed, failed, ahead, body}
 use Rattle.wat.proofs.StringRests.{ahead_ahead, ahead_none, elems_body}
+use Rattle.std.specs.Prelude.{Bool, true, Option, Some, None, is_some, IfSome}
 use Rattle.lex_escapes.specs.Elements.{Element, Refuses}
-use Rattle.lex_strings.specs.Raw.{Raws}
+use Rattle.lex_strings.specs.Raw.{Raws, Pairs}
 use Rattle.lex_strings.specs.Parsing.{string, Ends, StringFails, Closes, value_of}
 
 -- from `at` to i stand elements for w, and the model has fuel for the rest
@@ -143,6 +144,11 @@ module _ (σ : Settings) (s : List ℕ) where
   pub element_onward : {i n : ℕ} {v : List ℕ} → Element (drop i s) (read σ (drop i s)) n v → Onward σ s i (i + n) v
   element_onward {i} {n} {v} x = record { on = λ at w p. passed_element σ s at i w p n v x }
 
+-- a pair that is there
+pub paired : {t : List ℕ} {b : Bool} (o : Option ℕ) → IfSome o (Pairs t) → b ≡ is_some o → b ≡ true → (n : ℕ) × Pairs t n
+paired (Some n) p q e = (n, p)
+paired None p q e = absurd (never (sym q ∙ e) refl)
+
 -- elements stand from `at` to i, whatever they stand for
 pub record Reached (σ : Settings) (s : List ℕ) (at i : ℕ) : Type 0 where
   pub value : List ℕ
@@ -161,6 +167,9 @@ module _ {σ : Settings} {s : List ℕ} {at i : ℕ} (x : Reached σ s at i) whe
 
   pub reached_element : {n : ℕ} {v : List ℕ} → Element (drop i s) (read σ (drop i s)) n v → Reached σ s at (i + n)
   reached_element r = reached_on (element_onward σ s r)
+
+  pub reached_pair : {b : Bool} (o : Option ℕ) → IfSome o (Pairs (drop i s)) → b ≡ is_some o → b ≡ true → Reached σ s at (i + 3)
+  reached_pair o p q e = reached_element ((paired o p q e).1 σ)
 
   pub reached_ends : (read σ (drop i s) ≡ quote) × (1 ≤ length (drop i s)) → Ends σ s at (i + 1)
   reached_ends e = passed_ends σ s at i x.value x.passed e

@@ -49,33 +49,23 @@ raw_one s i h e =
     let g = eqb-false b (byte "\\") (not-true _ n.1) in
     let shown : control b ≡ false = rw (le-ltb b 0x20 k.0, ne_eqb b 0x7F (omega arith)) in
     let plain = confusing_not b (omega arith) in
-    record { fits = omega arith; is = λ o σ. rw (drop-cons s i 0 h) (Elem.raw (ascii b (omega arith)) shown f g (λ _. plain)) }
+    record { some = omega arith; fits = omega arith; is = λ σ. rw (drop-cons s i 0 h) (Elem.raw (ascii b (omega arith)) shown f g (λ _. plain)) }
 
 -- a character that is not ASCII, and has not the bytes of a confusing one
 raw_wide :
-    (s : List ℕ) (i n : ℕ) (c : List ℕ) → i + n ≤ length s → take n (drop i s) ≡ c → Char c → 0x80 ≤ get_or c 0 0
+    (s : List ℕ) (i n : ℕ) (c : List ℕ) → 1 ≤ n → i + n ≤ length s → take n (drop i s) ≡ c → Char c → 0x80 ≤ get_or c 0 0
     → confusing_bytes (get_or c 0 0) (get_or c 1 0) (get_or c 2 0) ≡ false → Raw s i n
-raw_wide s i n c h e ch w f =
+raw_wide s i n c o h e ch w f =
     let high = wide_scalar c ch w in
     record {
+      some = o;
       fits = h;
-      is = λ o σ. rw e (Elem.raw ch (high_raw (scalar c) high) (omega arith) (omega arith) (λ _. unconfusing c ch f));
+      is = λ σ. rw e (Elem.raw ch (high_raw (scalar c) high) (omega arith) (omega arith) (λ _. unconfusing c ch f));
     }
 
 -- what `continues` says
-pub continuing : (r : Bool) (b : ℕ) → r ≡ between 0x80 0xBF b → r ≡ true → Continues b
-continuing r b e t = let w = between_true 0x80 0xBF b (sym e ∙ t) in (w.0, omega arith)
-
-module _ {p q : Bool} {b c : ℕ} (e : p ≡ between 0x80 0xBF b) (f : q ≡ between 0x80 0xBF c) where
-  pub both_continue : p && q ≡ true → Continues b × Continues c
-  both_continue h = let w = both p q h in (continuing p b e w.0, continuing q c f w.1)
-
-  pub all_continue : {r : Bool} {d : ℕ} → r ≡ between 0x80 0xBF d → p && (q && r) ≡ true
-      → Continues b × Continues c × Continues d
-  all_continue {r} {d} g h =
-      let w = both p (q && r) h in
-      let v = both q r w.1 in
-      (continuing p b e w.0, continuing q c f v.0, continuing r d g v.1)
+continuing : (b : ℕ) → between 0x80 0xBF b ≡ true → Continues b
+continuing b e = let w = between_true 0x80 0xBF b e in (w.0, omega arith)
 
 -- characters of two, three and four bytes
 
@@ -92,17 +82,18 @@ module _ (s : List ℕ) (i : ℕ) where
   abbrev d : ℕ
   d = get_or s (i + 3) 0
 
-  pub raw_two : (i + 2 ≤ length s) × (0xC2 ≤ a) × (a < 0xE0) → Continues b → Raw s i 2
-  raw_two h k =
-      raw_wide s i 2 (a ∷ b ∷ []) h.0 (rw (drop-cons s i 0 (omega arith), drop-cons s (suc i) 0 (omega arith), add-one i))
-      (char_2 a b h.1 h.2 k) (omega arith) (unled a b 0 (omega arith))
+  pub raw_two : i + 2 ≤ length s → 0xC2 ≤ a → a < 0xE0 → between 0x80 0xBF b ≡ true → Raw s i 2
+  raw_two h l k e =
+      raw_wide s i 2 (a ∷ b ∷ []) (omega arith) h (rw (drop-cons s i 0 (omega arith), drop-cons s (suc i) 0 (omega arith), add-one i))
+      (char_2 a b l k (continuing b e)) (omega arith) (unled a b 0 (omega arith))
 
   pub raw_three :
-      (i + 3 ≤ length s) × (0xE0 ≤ a) × (a < 0xF0) → Continues b × Continues c
-      → (a ≡ 0xE0 → 0xA0 ≤ b) × (a ≡ 0xED → b ≤ 0x9F) → confusing_bytes a b c ≡ false → Raw s i 3
-  raw_three h k e f =
-      let second : Second a b = record { after_e0 = e.0; after_ed = e.1; after_f0 = omega arith; after_f4 = omega arith } in
-      raw_wide s i 3 (a ∷ b ∷ c ∷ []) h.0
+      i + 3 ≤ length s → 0xE0 ≤ a → a < 0xF0 → between 0x80 0xBF b && between 0x80 0xBF c ≡ true → (a ≡ 0xE0 → 0xA0 ≤ b)
+      → (a ≡ 0xED → b ≤ 0x9F) → confusing_bytes a b c ≡ false → Raw s i 3
+  raw_three h l k e x y f =
+      let second : Second a b = record { after_e0 = x; after_ed = y; after_f0 = omega arith; after_f4 = omega arith } in
+      let w = both (between 0x80 0xBF b) (between 0x80 0xBF c) e in
+      raw_wide s i 3 (a ∷ b ∷ c ∷ []) (omega arith) h
       (rw (
         drop-cons s i 0 (omega arith),
         drop-cons s (suc i) 0 (omega arith),
@@ -110,14 +101,23 @@ module _ (s : List ℕ) (i : ℕ) where
         add-one i,
         add-two i,
       ))
-      (char_3 a b c h.1 h.2 k.0 second k.1) (omega arith) f
+      (char_3 a b c l k (continuing b w.0) second (continuing c w.1)) (omega arith) f
+
+  -- none that starts otherwise is confusing
+  pub raw_common :
+      i + 3 ≤ length s → 0xE0 ≤ a → a < 0xF0 → between 0x80 0xBF b && between 0x80 0xBF c ≡ true → (a ≡ 0xE0 → 0xA0 ≤ b)
+      → (a ≡ 0xED → b ≤ 0x9F) → (a ≡ 0xE2 → ⊥) → Raw s i 3
+  raw_common h l k e x y n = raw_three h l k e x y (unled a b c n)
 
   pub raw_four :
-      (i + 4 ≤ length s) × (0xF0 ≤ a) × (a ≤ 0xF4) → Continues b × Continues c × Continues d
-      → (a ≡ 0xF0 → 0x90 ≤ b) × (a ≡ 0xF4 → b ≤ 0x8F) → Raw s i 4
-  raw_four h k e =
-      let second : Second a b = record { after_e0 = omega arith; after_ed = omega arith; after_f0 = e.0; after_f4 = e.1 } in
-      raw_wide s i 4 (a ∷ b ∷ c ∷ d ∷ []) h.0
+      i + 4 ≤ length s → 0xF0 ≤ a → a ≤ 0xF4
+      → between 0x80 0xBF b && (between 0x80 0xBF c && between 0x80 0xBF d) ≡ true → (a ≡ 0xF0 → 0x90 ≤ b)
+      → (a ≡ 0xF4 → b ≤ 0x8F) → Raw s i 4
+  raw_four h l k e x y =
+      let second : Second a b = record { after_e0 = omega arith; after_ed = omega arith; after_f0 = x; after_f4 = y } in
+      let w = both (between 0x80 0xBF b) _ e in
+      let v = both (between 0x80 0xBF c) (between 0x80 0xBF d) w.1 in
+      raw_wide s i 4 (a ∷ b ∷ c ∷ d ∷ []) (omega arith) h
       (rw (
         drop-cons s i 0 (omega arith),
         drop-cons s (suc i) 0 (omega arith),
@@ -127,10 +127,10 @@ module _ (s : List ℕ) (i : ℕ) where
         add-two i,
         add-three i,
       ))
-      (char_4 a b c d h.1 h.2 k.0 second k.1 k.2) (omega arith) (unled a b c (omega arith))
+      (char_4 a b c d l k (continuing b w.0) second (continuing c v.0) (continuing d v.1)) (omega arith) (unled a b c (omega arith))
 
-pub raw_none : (s : List ℕ) (i : ℕ) → i < length s → Raw s i 0
-raw_none s i h = record { fits = omega arith; is = λ o. absurd (omega arith) }
+-- the ways to find a character that is not ASCII
+pub ruleset wides = (raw_two, raw_three, raw_common, raw_four)
 
 elems_append : {σ : Settings} {a b v w : List ℕ} → Elems σ a v → Elems σ b w → Elems σ (a ++ b) (v ++ w)
 elems_append Elems.none q = q
@@ -145,8 +145,8 @@ raws_none s at h =
     let o : at - at ≡ 0 = omega arith in
     record { order = omega arith; fits = h; are = λ σ. rw o Elems.none }
 
-pub raws_more : (s : List ℕ) (at i n : ℕ) → Raws s at i → Raw s i n → 1 ≤ n → Raws s at (i + n)
-raws_more s at i n r x h =
+pub raws_more : (s : List ℕ) (at i n : ℕ) → Raws s at i → Raw s i n → Raws s at (i + n)
+raws_more s at i n r x =
     let o : i + n - at ≡ i - at + n = omega (arith, r.order) in
     let p : at + (i - at) ≡ i = omega (arith, r.order) in
     let q : take (i + n - at) (drop at s) ≡ take (i - at) (drop at s) ++ take n (drop i s) =
@@ -154,7 +154,7 @@ raws_more s at i n r x h =
     record {
       order = omega (arith, r.order);
       fits = x.fits;
-      are = λ σ. rw q (elems_append (r.are σ) (elems_one (x.is h σ)));
+      are = λ σ. rw q (elems_append (r.are σ) (elems_one (x.is σ)));
     }
 
 -- ---- two digits
@@ -191,7 +191,15 @@ pair_reads s at σ k e d =
     let l = hex_is (get_or s (at + 2) 0) w.1 in
     (pair_is s at _ _ _ k e h.0 l.0 refl σ).is
 
-pub ruleset pairs = (pair_reads, left_long)
+pub pair_small :
+    (a b : ℕ) → digit true a && digit true b ≡ true → (a % 16 + 9 * (a / 64)) * 16 + (b % 16 + 9 * (b / 64)) < 256
+pair_small a b d =
+    let w = both (digit true a) (digit true b) d in
+    let h = hex_is a w.0 in
+    let l = hex_is b w.1 in
+    omega (arith, h.1, l.1)
+
+pub ruleset pairs = (pair_reads, pair_small, left_long)
 
 -- ---- a byte among those from i to `to`
 

@@ -1,12 +1,10 @@
 -- What the readers of a whole string answer, in the terms of wat's model.
-use Rattle.std.specs.Prelude.{ℕ, suc, ◌+◌, ◌≤◌, ◌≡◌, List, [], length, drop}
+use Rattle.std.specs.Prelude.{ℕ, suc, ◌+◌, ◌≤◌, ◌≡◌, List, [], length, drop, Result, Ok, Err}
 use Rattle.wat.specs.declared.Fault.{Fault}
 use Rattle.wat.specs.Faults.{shift}
 use Rattle.wat.specs.declared.Settings.{Settings}
 use Rattle.wat.specs.RunModel as model
 use Rattle.buffers.specs.Writing.{Put}
-use Rattle.lex_strings.specs.declared.StringEnd.{StringEnd}
-use Rattle.lex_strings.specs.declared.StringEnd.TheVariants.{Closed, Failed}
 
 -- the string whose opening quote stands before t
 abbrev pub string : Settings → List ℕ → model.StringRead
@@ -29,9 +27,9 @@ pub record StringFails (σ : Settings) (s : List ℕ) (at : ℕ) (f : Fault) : T
   pub order : from.place ≤ from.after
   pub fits : f.after ≤ length s
 
-abbrev pub Parsed : Settings → List ℕ → ℕ → StringEnd → Type 0
-Parsed σ s at (Closed end) = Ends σ s at end
-Parsed σ s at (Failed f) = StringFails σ s at f
+abbrev pub Parsed : Settings → List ℕ → ℕ → Result ℕ Fault → Type 0
+Parsed σ s at (Ok end) = Ends σ s at end
+Parsed σ s at (Err f) = StringFails σ s at f
 
 -- the string has its closing quote, and no error stands before it
 abbrev pub Closes : model.StringRead → Type 0

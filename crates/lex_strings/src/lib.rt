@@ -3,7 +3,7 @@
 
 #![tactic(auto)]
 
-ghost use Rattle.std.specs.Prelude.{◌≡◌, ◌≤◌, ◌<◌, length, get_or, drop};
+ghost use Rattle.std.specs.Prelude.{◌≡◌, ◌≤◌, ◌<◌, length, get_or, drop, IfSome};
 ghost use Rattle.std.proofs.Math.Seq.{slice};
 ghost use Rattle.wat.specs.Bytes.{byte, between, has};
 ghost use Rattle.wat.specs.Settings.{lenient};
@@ -14,23 +14,16 @@ use lex_classes::Table;
 use lex_escapes::Read;
 use wat::{Fault, Settings};
 
-// What follows an opening quote: a string that ends past its closing quote, or a fault.
-#[derive(Clone, Copy)]
-pub enum StringEnd {
-    Closed(usize),
-    Failed(Fault),
-}
-
-// The string whose opening quote ends at `at`.
+// The string whose opening quote ends at `at`: the place past its closing quote.
 #[tactic(auto, using(crate::proofs::PassLaws::reached_none))]
-pub fn parse_str(s: &[u8], at: usize, settings: Settings, t: &Table) -> StringEnd
+pub fn parse_str(s: &[u8], at: usize, settings: Settings, t: &Table) -> Result<usize, Fault>
     requires at_in_bounds { at ≤ length s.now }
     ensures { Parsed settings s.now at result }
 {
     let mut i = at;
     loop {
         i = raw_end(s, i, t);
-        if pair(s, i, t) < 256 {
+        if pair(s, i, t).is_some() {
             i += 3;
             continue;
         }
@@ -42,12 +35,11 @@ pub fn parse_str(s: &[u8], at: usize, settings: Settings, t: &Table) -> StringEn
                 i += len;
             }
             Read::Quote => {
-                return StringEnd::Closed(i + 1);
+                return Ok(i + 1);
             }
             Read::Refused(fault) => {
-                let error = fault.error;
-                return StringEnd::Failed(Fault {
-                    error,
+                return Err(Fault {
+                    error: fault.error,
                     place: i + fault.place,
                     after: i + fault.after,
                 });
@@ -83,7 +75,7 @@ pub fn decoded_len(s: &[u8], at: usize, t: &Table) -> usize
     loop {
         let j = raw_end(s, i, t);
         n += j - i;
-        if pair(s, j, t) < 256 {
+        if pair(s, j, t).is_some() {
             n += 1;
             i = j + 3;
             continue;
@@ -121,9 +113,8 @@ pub fn decode_into(s: &[u8], at: usize, dst: &mut [u8], t: &Table) -> usize
         let j = raw_end(s, i, t);
         buffers::copy(dst, to, s, i, j - i);
         to += j - i;
-        let b = pair(s, j, t);
-        if b < 256 {
-            dst[to] = b as u8;
+        if let Some(b) = pair(s, j, t) {
+            dst[to] = b;
             to += 1;
             i = j + 3;
             continue;
@@ -160,33 +151,33 @@ fn raw_end(s: &[u8], at: usize, t: &Table) -> usize
         if t.is_raw(s[i]) {
             i += 1;
         } else {
-            let n = wide_raw(s, i);
-            if n == 0 {
+            let Some(n) = wide_raw(s, i) else {
                 return i;
-            }
+            };
             i += n;
         }
     }
     i
 }
 
-// The length of a character at a place that is neither ASCII nor confusing, or 0.
-fn wide_raw(s: &[u8], at: usize) -> usize
+// The length of a character at a place that is neither ASCII nor confusing.
+#[tactic(auto, using(crate::proofs::RawLaws::wides))]
+fn wide_raw(s: &[u8], at: usize) -> Option<usize>
     requires { at < length s.now }
-    ensures { Raw s.now at result }
+    ensures { IfSome result (Raw s.now at) }
 {
     let a = s[at];
     if a < 0xC2 {
-        return 0;
+        return None;
     }
     if a < 0xE0 {
         if s.len() - at < 2 {
-            return 0;
+            return None;
         }
         if continues(s[at + 1]) {
-            return 2;
+            return Some(2);
         }
-        return 0;
+        return None;
     }
     if (0xE3 <= a) & (a <= 0xEC) {
         return common_raw(s, at);
@@ -197,85 +188,87 @@ fn wide_raw(s: &[u8], at: usize) -> usize
     four_raw(s, at)
 }
 
-// 3 where a character from U+3000 to U+CFFF stands, or 0: those of three bytes that are met most, and none is
-// confusing.
-fn common_raw(s: &[u8], at: usize) -> usize
+// 3 where a character from U+3000 to U+CFFF stands: those of three bytes that are met most, and none is confusing.
+#[tactic(auto, using(crate::proofs::RawLaws::wides))]
+fn common_raw(s: &[u8], at: usize) -> Option<usize>
     requires { (at < length s.now) × (0xE3 ≤ get_or s.now at 0) × (get_or s.now at 0 ≤ 0xEC) }
-    ensures { Raw s.now at result }
+    ensures { IfSome result (Raw s.now at) }
 {
     if s.len() - at < 3 {
-        return 0;
+        return None;
     }
     if continues(s[at + 1]) & continues(s[at + 2]) {
-        return 3;
+        return Some(3);
     }
-    0
+    None
 }
 
-// 3 where a character of three bytes stands that is not confusing, or 0.
-fn three_raw(s: &[u8], at: usize) -> usize
+// 3 where a character of three bytes stands that is not confusing.
+#[tactic(auto, using(crate::proofs::RawLaws::wides))]
+fn three_raw(s: &[u8], at: usize) -> Option<usize>
     requires { (at < length s.now) × (0xE0 ≤ get_or s.now at 0) × (get_or s.now at 0 < 0xF0) }
-    ensures { Raw s.now at result }
+    ensures { IfSome result (Raw s.now at) }
 {
     if s.len() - at < 3 {
-        return 0;
+        return None;
     }
     let a = s[at];
     let b = s[at + 1];
     let c = s[at + 2];
     if !(continues(b) & continues(c)) {
-        return 0;
+        return None;
     }
     if a < 0xE3 {
         if a == 0xE0 {
             if b < 0xA0 {
-                return 0;
+                return None;
             }
-            return 3;
+            return Some(3);
         }
         if lex_classes::is_confusing_bytes(a, b, c) {
-            return 0;
+            return None;
         }
-        return 3;
+        return Some(3);
     }
     if a == 0xED {
         if 0x9F < b {
-            return 0;
+            return None;
         }
-        return 3;
+        return Some(3);
     }
-    3
+    Some(3)
 }
 
-// 4 where a character of four bytes stands, or 0.
-fn four_raw(s: &[u8], at: usize) -> usize
+// 4 where a character of four bytes stands.
+#[tactic(auto, using(crate::proofs::RawLaws::wides))]
+fn four_raw(s: &[u8], at: usize) -> Option<usize>
     requires { (at < length s.now) × (0xF0 ≤ get_or s.now at 0) }
-    ensures { Raw s.now at result }
+    ensures { IfSome result (Raw s.now at) }
 {
     if s.len() - at < 4 {
-        return 0;
+        return None;
     }
     let a = s[at];
     let b = s[at + 1];
     if !(continues(b) & (continues(s[at + 2]) & continues(s[at + 3]))) {
-        return 0;
+        return None;
     }
     if a == 0xF0 {
         if b < 0x90 {
-            return 0;
+            return None;
         }
-        return 4;
+        return Some(4);
     }
     if a < 0xF4 {
-        return 4;
+        return Some(4);
     }
     if 0xF4 < a {
-        return 0;
+        return None;
     }
     if 0x8F < b {
-        return 0;
+        return None;
     }
-    4
+    Some(4)
 }
 
 // Whether a byte may be one of a character after its first.
@@ -286,23 +279,23 @@ fn continues(b: u8) -> bool
     (0x80 <= b) & (b <= 0xBF)
 }
 
-// The byte of the `\hh` at a place, or 256 where none stands. In data any digit follows any other: so both are tested
-// at once, and the value is had by arithmetic, with no branch to be mispredicted.
+// The byte of the `\hh` at a place. In data any digit follows any other: so both are tested at once, and the value is
+// had by arithmetic, with no branch to be mispredicted.
 #[tactic(auto, using(crate::proofs::RawLaws::pairs))]
-fn pair(s: &[u8], at: usize, t: &Table) -> u32
+fn pair(s: &[u8], at: usize, t: &Table) -> Option<u8>
     requires at_in_bounds { at ≤ length s.now }
-    ensures { Pairs (drop at s.now) result }
+    ensures { IfSome result (Pairs (drop at s.now)) }
 {
     if s.len() - at < 3 {
-        return 256;
+        return None;
     }
     if s[at] != b'\\' {
-        return 256;
+        return None;
     }
     let h = s[at + 1];
     let l = s[at + 2];
     if t.is_digit(true, h) & t.is_digit(true, l) {
-        return lex_classes::hex_value(h) * 16 + lex_classes::hex_value(l);
+        return Some((lex_classes::hex_value(h) * 16 + lex_classes::hex_value(l)) as u8);
     }
-    256
+    None
 }

@@ -81,7 +81,7 @@ raw_ascii x e = let k = between_true 0x20 0x7E x (both (between 0x20 0x7E x) _ e
 -- raw characters stand for themselves
 raw_elems : (σ : Settings) {w : List ℕ} → Each raw true w → Elems σ w w
 raw_elems σ Each.none = Elems.none
-raw_elems σ (Each.next {x = x} e r) = Elems.next ((raw_one (x ∷ []) 0 (omega arith) e).is (omega arith) σ) (raw_elems σ r)
+raw_elems σ (Each.next {x = x} e r) = Elems.next ((raw_one (x ∷ []) 0 (omega arith) e).is σ) (raw_elems σ r)
 
 -- between quotation marks they are a string, whatever the settings
 module _ {w : List ℕ} (each : Each raw true w) where

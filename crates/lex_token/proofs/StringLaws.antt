@@ -13,8 +13,8 @@ use Rattle.wat.specs.declared.Settings.{Settings}
 use Rattle.wat.specs.Utf8.{WellFormed}
 use Rattle.wat.specs.declared.RunEnd.TheVariants.{Fails as fails}
 use Rattle.wat.specs.LexModel.{next}
-use Rattle.lex_strings.specs.declared.StringEnd.{StringEnd}
-use Rattle.lex_strings.specs.declared.StringEnd.TheVariants.{Closed, Failed}
+use Rattle.std.specs.Prelude.{Result, Ok, Err}
+use Rattle.wat.specs.declared.Fault.{Fault}
 use Rattle.lex_strings.specs.Parsing.{Ends, StringFails, Parsed}
 use Rattle.lex_token.proofs.RunLaws.{walked, quote_at, Quoted, string_closed, string_failed}
 
@@ -22,14 +22,14 @@ module _ (s : List ℕ) (at : ℕ) (n : next (byte "\"") (drop at s) ≡ true) w
   pub string_follows : at + 1 ≤ length s
   string_follows = let q = (quote_at s at n).0 in omega arith
 
-  module _ (σ : Settings) {r : StringEnd} (p : Parsed σ s (at + 1) r) where
-    pub parsed_closed : {end : ℕ} → WellFormed (drop at s) → r ≡ Closed end → Quoted σ s at end
+  module _ (σ : Settings) {r : Result ℕ Fault} (p : Parsed σ s (at + 1) r) where
+    pub parsed_closed : {end : ℕ} → WellFormed (drop at s) → r ≡ Ok end → Quoted σ s at end
     parsed_closed {end} g e =
         let q = quote_at s at n in
         let c : Ends σ s (at + 1) end = subst (Parsed σ s (at + 1)) e p in
         string_closed σ s at q.1 g c
 
-    pub parsed_failed : {f : Fault} → r ≡ Failed f → (x : Fault) × (walked σ (drop at s) ≡ fails x) × (f ≡ shift at x)
+    pub parsed_failed : {f : Fault} → r ≡ Err f → (x : Fault) × (walked σ (drop at s) ≡ fails x) × (f ≡ shift at x)
     parsed_failed {f} z =
         let q = quote_at s at n in
         let b : StringFails σ s (at + 1) f = subst (Parsed σ s (at + 1)) z p in

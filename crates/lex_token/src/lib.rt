@@ -15,7 +15,6 @@ ghost use Rattle.lex_token.specs.Steps.{step_of, Stepped, Quick};
 pub use alone::token_alone;
 use codes::KindNumber;
 use lex_classes::Table;
-use lex_strings::StringEnd;
 use wat::{Family, Hidden, RunEnd, Settings, TokenKind};
 
 mod alone;
@@ -205,8 +204,8 @@ fn parse_reserved(s: &[u8], at: usize, settings: Settings, t: &Table) -> Option<
         });
     }
     match lex_strings::parse_str(s, i + 1, settings, t) {
-        StringEnd::Failed(_) => None,
-        StringEnd::Closed(j) => match parse_run(s, j, settings, t) {
+        Err(_) => None,
+        Ok(j) => match parse_run(s, j, settings, t) {
             RunEnd::Fails(_) => None,
             RunEnd::Stops(k) => {
                 if k == j {
@@ -237,10 +236,10 @@ pub fn parse_run(s: &[u8], at: usize, settings: Settings, t: &Table) -> RunEnd
             return RunEnd::Stops(k);
         }
         match lex_strings::parse_str(s, k + 1, settings, t) {
-            StringEnd::Closed(end) => {
+            Ok(end) => {
                 i = end;
             }
-            StringEnd::Failed(fault) => {
+            Err(fault) => {
                 return RunEnd::Fails(fault);
             }
         }

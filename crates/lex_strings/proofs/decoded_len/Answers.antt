@@ -1,15 +1,17 @@
 use Rattle.std.proofs.Common.{refl, arith}
-use Rattle.lex_strings.proofs.CopyLaws.{never_refused, measured_raws, measured_element, measured_quote}
+use Rattle.lex_strings.proofs.CopyLaws.{never_refused, measured_raws, measured_element, measured_pair, measured_quote}
 use Rattle.lex_strings.proofs.decoded_len.Goals as goal
 
-pub loop-i-smaller-then-pair-lt256 : goal.loop-i-smaller-then-pair-lt256
-loop-i-smaller-then-pair-lt256 c =
-    let x = measured_element (measured_raws c.loop-i.invariant c.raw_end-j.ensures) (c.pair.ensures c.if-pair-lt256.true _) refl in
-    omega (arith, x.passed.within, c.raw_end-j.ensures.order)
+pub loop-i-smaller-then-is_some : goal.loop-i-smaller-then-is_some
+loop-i-smaller-then-is_some c =
+    let r = c.raw_end-j.ensures in
+    let x = measured_pair (measured_raws c.loop-i.invariant r) c.pair.result c.pair.ensures c.is_some.ensures c.if-is_some.true in
+    omega (arith, x.passed.within, r.order)
 
-pub loop-i-preserved-then-pair-lt256 : goal.loop-i-preserved-then-pair-lt256
-loop-i-preserved-then-pair-lt256 c =
-    measured_element (measured_raws c.loop-i.invariant c.raw_end-j.ensures) (c.pair.ensures c.if-pair-lt256.true _) refl
+pub loop-i-preserved-then-is_some : goal.loop-i-preserved-then-is_some
+loop-i-preserved-then-is_some c =
+    measured_pair (measured_raws c.loop-i.invariant c.raw_end-j.ensures) c.pair.result c.pair.ensures c.is_some.ensures
+    c.if-is_some.true
 
 pub loop-i-preserved-in-Byte : goal.loop-i-preserved-in-Byte
 loop-i-preserved-in-Byte c = measured_element (measured_raws c.loop-i.invariant c.raw_end-j.ensures) c.in-Byte.ensures refl

@@ -1,15 +1,17 @@
 use Rattle.std.proofs.Common.{arith}
-use Rattle.lex_strings.proofs.PassLaws.{reached_raws, reached_element, reached_ends, reached_fails}
+use Rattle.lex_strings.proofs.PassLaws.{reached_raws, reached_element, reached_pair, reached_ends, reached_fails}
 use Rattle.lex_strings.proofs.parse_str.Goals as goal
 
-pub loop-i-smaller-then-pair-lt256 : goal.loop-i-smaller-then-pair-lt256
-loop-i-smaller-then-pair-lt256 c =
-    let x = reached_element (reached_raws c.loop-i.invariant c.raw_end-i.ensures) (c.pair.ensures c.if-pair-lt256.true _) in
-    omega (arith, x.passed.within, c.raw_end-i.ensures.order)
+pub loop-i-smaller-then-is_some : goal.loop-i-smaller-then-is_some
+loop-i-smaller-then-is_some c =
+    let r = c.raw_end-i.ensures in
+    let x = reached_pair (reached_raws c.loop-i.invariant r) c.pair.result c.pair.ensures c.is_some.ensures c.if-is_some.true in
+    omega (arith, x.passed.within, r.order)
 
-pub loop-i-preserved-then-pair-lt256 : goal.loop-i-preserved-then-pair-lt256
-loop-i-preserved-then-pair-lt256 c =
-    reached_element (reached_raws c.loop-i.invariant c.raw_end-i.ensures) (c.pair.ensures c.if-pair-lt256.true _)
+pub loop-i-preserved-then-is_some : goal.loop-i-preserved-then-is_some
+loop-i-preserved-then-is_some c =
+    reached_pair (reached_raws c.loop-i.invariant c.raw_end-i.ensures) c.pair.result c.pair.ensures c.is_some.ensures
+    c.if-is_some.true
 
 pub loop-i-preserved-in-Byte : goal.loop-i-preserved-in-Byte
 loop-i-preserved-in-Byte c = reached_element (reached_raws c.loop-i.invariant c.raw_end-i.ensures) c.in-Byte.ensures

@@ -7,7 +7,7 @@ loop-i-init c = raws_none _ _ c.requires.at_in_bounds
 
 pub loop-i-preserved-then-is_raw : goal.loop-i-preserved-then-is_raw
 loop-i-preserved-then-is_raw c =
-    raws_more _ _ _ 1 c.loop-i.invariant (raw_one _ _ (omega arith) (sym c.is_raw.ensures ∙ c.if-is_raw.true)) (omega arith)
+    raws_more _ _ _ 1 c.loop-i.invariant (raw_one _ _ (omega arith) (sym c.is_raw.ensures ∙ c.if-is_raw.true))
 
 pub loop-i-preserved : goal.loop-i-preserved
-loop-i-preserved c = raws_more _ _ _ _ c.loop-i.invariant c.wide_raw-n.ensures (omega arith)
+loop-i-preserved c = raws_more _ _ _ _ c.loop-i.invariant c.in-Some.ensures
