@@ -29,7 +29,7 @@ pub fn hand(
     if copied {
         return copy(text, from, to, sign, buffer);
     }
-    let start = from - kept_len(sign);
+    let start = from - kept(sign).len();
     Reading::Text {
         start,
         len: to - start,
@@ -43,39 +43,28 @@ fn copy(text: &[u8], from: usize, to: usize, sign: Sign, buffer: &mut [u8]) -> R
         → Handed o (copy_of (kept sign ++ bare (slice from to text.now))) buffer.old result
         buffer.new }
 {
-    let first = kept_len(sign);
-    let len = first + bare_len(text, from, to);
+    let first = kept(sign);
+    let len = first.len() + bare_len(text, from, to);
     if buffer.len() < len {
         return Reading::Refused {
             refusal: Refusal::BufferTooShort,
             place: NO_PLACE,
         };
     }
-    put_sign(sign, buffer);
-    bare_into(text, from, to, buffer, first);
+    let next = buffers::append(buffer, 0, first);
+    bare_into(text, from, to, buffer, next);
     Reading::Buffer { start: 0, len }
 }
 
-fn kept_len(sign: Sign) -> usize
-    ensures { result ≡ length (kept sign) }
+// The sign that is handed over: a `+` is dropped.
+fn kept(sign: Sign) -> &'static [u8]
+    ensures value { result.now ≡ kept sign }
+    ensures len { length result.now ≡ length (kept sign) }
 {
     match sign {
-        Sign::Unsigned => 0,
-        Sign::Plus => 0,
-        Sign::Minus => 1,
-    }
-}
-
-fn put_sign(sign: Sign, buffer: &mut [u8])
-    requires { length (kept sign) ≤ length buffer.old }
-    ensures { Put buffer.old buffer.new 0 (kept sign) }
-{
-    match sign {
-        Sign::Unsigned => {}
-        Sign::Plus => {}
-        Sign::Minus => {
-            buffer[0] = b'-';
-        }
+        Sign::Unsigned => b"",
+        Sign::Plus => b"",
+        Sign::Minus => b"-",
     }
 }
 

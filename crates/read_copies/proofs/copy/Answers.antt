@@ -1,4 +1,4 @@
-use Rattle.std.proofs.Common.{ℕ, ◌+◌, ap, arith, length-append}
+use Rattle.std.proofs.Common.{◌≡◌, ◌+◌, length, arith, length-append}
 use Rattle.std.proofs.Math.Seq.{slice}
 use Rattle.wat_values.specs.Values.{bare, kept}
 use Rattle.wat_values.specs.Reading.{Handed}
@@ -13,7 +13,11 @@ returns-then-buffer-len c =
 -- the sign, and then the digits
 pub returns : goal.returns
 returns c =
-    let n = c.kept_len-first in
-    λ o.
-    copied _ _ _ _ _ c.put_sign.ensures c.bare_into.ensures n.ensures
-    (ap (λ (z : ℕ). n.result + z) c.bare_len.ensures.0)
+    let a = c.args in
+    let k = c.kept-first in
+    let p = c.append-next in
+    let s = bare (slice a.from a.to a.text.now) in
+    let l : p.result ≡ length (kept a.sign) = omega (arith, k.ensures.len, p.ensures.ends) in
+    let n : length k.result.now + c.bare_len.result ≡ p.result + length s =
+    omega (arith, k.ensures.len, p.ensures.ends, c.bare_len.ensures.0) in
+    λ o. copied _ _ _ _ _ (rw k.ensures.value at p.ensures.put) c.bare_into.ensures l n
