@@ -29,6 +29,7 @@ pub fn integer_64(text: &[u8], token: Token) -> IntegerValue
 }
 
 // The word of as many bits as `max`, all ones, has.
+// `max` tells the two apart: a trait with a constant, at u32 and u64, would be longer and say no more.
 #[tactic(auto, using(crate::proofs::ReadLaws::integers))]
 fn integer_word(text: &[u8], token: Token, max: u64) -> IntegerValue
     ensures { (N : ℕ) → 2 ^ N ≡ max + 1 → ReadsWord N text.now token result }
