@@ -179,7 +179,8 @@ fn unexpected(s: &[u8], at: usize) -> Fault
     }
 }
 
-// Unreachable; the value is never used.
+// Unreachable; the value is never used. An `Option<Fault>` would move the case that cannot be to both callers of
+// `fault_at`, and is no plainer.
 fn no_error(at: usize) -> Fault {
     Fault {
         error: LexError::UnexpectedEof,

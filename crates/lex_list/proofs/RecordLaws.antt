@@ -1,19 +1,19 @@
--- A record is six bytes, stored one after the other. Assumes nothing.
-use Prim.Native.Nat.{ℕ, suc, ◌+◌, ◌≤◌}
-use mathlib.Core.Path.{◌≡◌}
-use mathlib.Core.List.{List, [], ◌∷◌}
+-- A record is its length in four bytes and its kind in two. Assumes nothing.
+use Prim.Native.Nat.{ℕ, ◌%◌, ◌/◌, ◌^◌}
+use mathlib.Core.Path.{◌≡◌, ◌∙◌}
+use mathlib.Core.List.{List, ◌++◌}
 use native.Mathlib.Omega.{arith}
-use lib.ListN.{length, set}
-use Rattle.buffers.specs.Writing.{Put}
-use Rattle.buffers.proofs.PutLaws.{put_stores}
+use Rattle.std.specs.Int.{to_le_bytes, w16, w32}
+use Rattle.wat.specs.Division.{little}
+use Rattle.buffers.specs.Writing.{Put, Added}
+use Rattle.buffers.proofs.AddedLaws.{added_same, added_then}
 
-pub six_stores : (d : List ℕ) (to a b c e f g : ℕ) → to + 6 ≤ length d
-    → Put d (set (set (set (set (set (set d to a) (to + 1) b) (to + 2) c) (to + 3) e) (to + 4) f) (to + 5) g) to
-    (a ∷ b ∷ c ∷ e ∷ f ∷ g ∷ [])
-six_stores d to a b c e f g h =
-    let one : to + 1 ≡ suc to = omega arith in
-    let two : to + 2 ≡ suc (suc to) = omega arith in
-    let three : to + 3 ≡ suc (suc (suc to)) = omega arith in
-    let four : to + 4 ≡ suc (suc (suc (suc to))) = omega arith in
-    let five : to + 5 ≡ suc (suc (suc (suc (suc to)))) = omega arith in
-    rw (one, two, three, four, five) (put_stores d to (a ∷ b ∷ c ∷ e ∷ f ∷ g ∷ []) (omega arith))
+four : (n : ℕ) → to_le_bytes w32 n ≡ little 4 n
+four n =
+    let b : n / 256 ^ 2 % 256 ≡ n / 256 / 256 % 256 = omega arith in
+    let c : n / 256 ^ 3 % 256 ≡ n / 256 / 256 / 256 % 256 = omega arith in
+    cc (b, c)
+
+pub record_put : {d e f v w : List ℕ} {to m n : ℕ} (len k : ℕ) → v ≡ to_le_bytes w32 len → w ≡ to_le_bytes w16 k
+    → Added d e to v m → Added e f m w n → Put d f to (little 4 len ++ little 2 k)
+record_put len k p q a b = (added_then (added_same (p ∙ four len) a) (added_same q b)).put

@@ -13,18 +13,13 @@ use lex_classes::Table;
 use wat::{Listed, Refusal, Refused, Settings, Stop, Token};
 
 // A token's record at a place of the list: its length in four bytes and its kind in two, the least first.
-#[tactic(auto, using(crate::proofs::RecordLaws::six_stores))]
-fn put_record(list: &mut [u8], to: usize, len: usize, kind: KindNumber)
-    requires { (to + record_size ≤ length list.old) × (len < 4294967296) }
+#[tactic(auto, using(buffers::proofs::AddedLaws::added_length))]
+fn put_record(list: &mut [u8], to: usize, len: u32, kind: KindNumber)
+    requires { to + record_size ≤ length list.old }
     ensures { Put list.old list.new to (little 4 len ++ little 2 (kind_number kind)) }
 {
-    let kind = kind.get();
-    list[to] = (len % 256) as u8;
-    list[to + 1] = (len / 256 % 256) as u8;
-    list[to + 2] = (len / 256 / 256 % 256) as u8;
-    list[to + 3] = (len / 256 / 256 / 256 % 256) as u8;
-    list[to + 4] = (kind % 256) as u8;
-    list[to + 5] = (kind / 256 % 256) as u8;
+    let at = buffers::append(list, to, &len.to_le_bytes());
+    buffers::append(list, at, &kind.get().to_le_bytes());
 }
 
 // The listing from a place at which a text may be read. The text is checked no more: one check serves for all tokens.
@@ -70,7 +65,7 @@ fn list_from(
                 position: at,
             };
         }
-        put_record(list, used, step.end - at, step.kind);
+        put_record(list, used, (step.end - at) as u32, step.kind);
         used += Token::RECORD;
         n += 1;
         at = step.end;
