@@ -3,11 +3,11 @@
 #![tactic(auto)]
 
 ghost use Rattle.std.specs.Prelude.{◌≡◌, true, OnOk, IfOk, IfErr};
-ghost use Rattle.wat.specs.Calls.{Stands};
 ghost use Rattle.wat_values.specs.Reading.{There};
 ghost use Rattle.read_token.specs.Here.{Misses, Untaken, HereNumber, Denied, HereName, Unnamed};
 
 use lex_classes::Table;
+use lex_entry::Rest;
 use wat::{NumberKind, Refusal, Refused, Settings, Token, TokenKind};
 use wat_values::{NO_PLACE, NameKind};
 
@@ -32,8 +32,8 @@ pub fn present(text: &[u8], token: Token, t: &Table) -> Result<(), Refused>
     if alone(text, token, t) {
         return Ok(());
     }
-    lex_entry::check(text, token.offset)?;
-    present_at(text, token, t)
+    let rest = lex_entry::enter(text, token.offset)?;
+    present_at(&rest, token.kind, token.len, t)
 }
 
 // Whether the token is the whole of the text, and a word or a plain string, and so is there: no other check is needed.
@@ -56,24 +56,25 @@ fn alone(text: &[u8], token: Token, t: &Table) -> bool
     }
 }
 
-// 30, at an offset that stands: lexing there, leniently, gives another kind or another length, or nothing.
+// 30, where the offset stands: lexing there, leniently, gives another kind or another length, or nothing.
 #[tactic(auto, using(crate::proofs::PresentLaws::presents))]
-fn present_at(text: &[u8], token: Token, t: &Table) -> Result<(), Refused>
-    requires stands { Stands text.now token.offset }
-    ensures ok { OnOk result (There text.now token) }
-    ensures err { IfErr result (Misses text.now token) }
+fn present_at(rest: &Rest, kind: TokenKind, len: u32, t: &Table) -> Result<(), Refused>
+    ensures ok { OnOk result (There rest.now.text (record { kind = kind; offset = rest.now.at; len = len })) }
+    ensures err { IfErr result
+        (Misses rest.now.text (record { kind = kind; offset = rest.now.at; len = len })) }
 {
-    let offset = token.offset;
+    let text = rest.text();
+    let offset = rest.at();
     if offset == text.len() {
         return Err(NOT_THAT_TOKEN);
     }
     let Some(step) = lex_token::parse_kind(text, offset, Settings::LENIENT, t) else {
         return Err(NOT_THAT_TOKEN);
     };
-    if step.kind.kind() != token.kind {
+    if step.kind.kind() != kind {
         return Err(NOT_THAT_TOKEN);
     }
-    if step.end - offset != token.len as usize {
+    if step.end - offset != len as usize {
         return Err(NOT_THAT_TOKEN);
     }
     Ok(())
