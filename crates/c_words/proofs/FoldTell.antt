@@ -6,8 +6,9 @@ use mathlib.Core.List.{List}
 use native.Mathlib.Omega.{arith}
 use lib.ListN.{get_or}
 use Rattle.wat.specs.declared.Refusal.{Refusal}
-use Rattle.wat_forms.specs.declared.Folded.{Folded}
-use Rattle.wat_forms.specs.declared.Folded.TheVariants.{Refused, TooDeep, Unclosed, Past}
+use Rattle.std.specs.Prelude.{Ok, Err}
+use Rattle.wat_forms.specs.declared.FoldError.TheVariants as error
+use Rattle.wat_forms.specs.Folded.{Folded, Refused, TooDeep, Unclosed, Past}
 use Rattle.c_words.specs.Words.{refused_words, folded_words}
 use Rattle.c_words.proofs.RefusalLaws.{refused_words_tell, refused_number}
 
@@ -30,19 +31,22 @@ refused_not_open : (r : Refusal) (p o : ℕ) → refused_words r p ≡ folded_wo
 refused_not_open r p o e = omega (arith, refused_number r p (folded_words (Unclosed o)) e)
 
 pub folded_words_tell : (a b : Folded) → folded_words a ≡ folded_words b → a ≡ b
-folded_words_tell (Refused r p) (Refused q o) e = let z = refused_words_tell r q p o e in cc (z.0, z.1)
-folded_words_tell (Refused r p) (TooDeep o) e = absurd (refused_not_deep r p o e)
-folded_words_tell (Refused r p) (Unclosed o) e = absurd (refused_not_open r p o e)
-folded_words_tell (Refused r p) (Past at) e = absurd (omega (arith, ap way e))
-folded_words_tell (TooDeep p) (Refused q o) e = absurd (refused_not_deep q o p (sym e))
-folded_words_tell (TooDeep p) (TooDeep o) e = ap (λ (w : List ℕ). TooDeep (place w)) e
-folded_words_tell (TooDeep p) (Unclosed o) e = absurd (omega (arith, ap second e))
-folded_words_tell (TooDeep p) (Past at) e = absurd (omega (arith, ap way e))
-folded_words_tell (Unclosed p) (Refused q o) e = absurd (refused_not_open q o p (sym e))
-folded_words_tell (Unclosed p) (TooDeep o) e = absurd (omega (arith, ap second e))
-folded_words_tell (Unclosed p) (Unclosed o) e = ap (λ (w : List ℕ). Unclosed (place w)) e
-folded_words_tell (Unclosed p) (Past at) e = absurd (omega (arith, ap way e))
-folded_words_tell (Past at) (Refused q o) e = absurd (omega (arith, ap way e))
-folded_words_tell (Past at) (TooDeep o) e = absurd (omega (arith, ap way e))
-folded_words_tell (Past at) (Unclosed o) e = absurd (omega (arith, ap way e))
-folded_words_tell (Past at) (Past end) e = ap (λ (w : List ℕ). Past (second w)) e
+folded_words_tell (Err (error.Refused r)) (Err (error.Refused q)) e =
+    let z = refused_words_tell r.refusal q.refusal r.place q.place e in
+    let same : Refused r.refusal r.place ≡ Refused q.refusal q.place = cc (z.0, z.1) in
+    same
+folded_words_tell (Err (error.Refused r)) (Err (error.TooDeep o)) e = absurd (refused_not_deep r.refusal r.place o e)
+folded_words_tell (Err (error.Refused r)) (Err (error.Unclosed o)) e = absurd (refused_not_open r.refusal r.place o e)
+folded_words_tell (Err (error.Refused r)) (Ok at) e = absurd (omega (arith, ap way e))
+folded_words_tell (Err (error.TooDeep p)) (Err (error.Refused q)) e = absurd (refused_not_deep q.refusal q.place p (sym e))
+folded_words_tell (Err (error.TooDeep p)) (Err (error.TooDeep o)) e = ap (λ (w : List ℕ). TooDeep (place w)) e
+folded_words_tell (Err (error.TooDeep p)) (Err (error.Unclosed o)) e = absurd (omega (arith, ap second e))
+folded_words_tell (Err (error.TooDeep p)) (Ok at) e = absurd (omega (arith, ap way e))
+folded_words_tell (Err (error.Unclosed p)) (Err (error.Refused q)) e = absurd (refused_not_open q.refusal q.place p (sym e))
+folded_words_tell (Err (error.Unclosed p)) (Err (error.TooDeep o)) e = absurd (omega (arith, ap second e))
+folded_words_tell (Err (error.Unclosed p)) (Err (error.Unclosed o)) e = ap (λ (w : List ℕ). Unclosed (place w)) e
+folded_words_tell (Err (error.Unclosed p)) (Ok at) e = absurd (omega (arith, ap way e))
+folded_words_tell (Ok at) (Err (error.Refused q)) e = absurd (omega (arith, ap way e))
+folded_words_tell (Ok at) (Err (error.TooDeep o)) e = absurd (omega (arith, ap way e))
+folded_words_tell (Ok at) (Err (error.Unclosed o)) e = absurd (omega (arith, ap way e))
+folded_words_tell (Ok at) (Ok end) e = ap (λ (w : List ℕ). Past (second w)) e

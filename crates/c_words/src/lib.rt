@@ -5,8 +5,8 @@ ghost use Rattle.std.specs.Prelude.{◌≡◌};
 ghost use Rattle.c_words.specs.Words.{refused_words, checked_words, found_words};
 ghost use Rattle.c_words.specs.Words.{parsed_words, stop_words, listed_words, folded_words, words_version};
 
-use wat::{Found, Listed, Parsed, Refusal, Stop, Utf8Error};
-use wat_forms::Folded;
+use wat::{Listed, Parsed, Refusal, Refused, Stop, Token, Utf8Error};
+use wat_forms::FoldError;
 
 // The number of the words and constants of include/thallusweb.h, there THALLUSWEB_VERSION. It rises when one changes.
 pub const VERSION: u32 = 6;
@@ -34,12 +34,12 @@ pub fn checked_words(c: Result<(), Utf8Error>) -> [u64; 3]
     }
 }
 
-pub fn found_words(f: Found) -> [u64; 5]
+pub fn found_words(f: Result<Option<Token>, Refused>) -> [u64; 5]
     ensures { result ≡ found_words f }
 {
     match f {
-        Found::Nothing => [0, 0, 0, 0, 0],
-        Found::Token(t) => {
+        Ok(None) => [0, 0, 0, 0, 0],
+        Ok(Some(t)) => {
             let k = t.kind;
             [
                 1,
@@ -49,7 +49,7 @@ pub fn found_words(f: Found) -> [u64; 5]
                 0,
             ]
         }
-        Found::Refused { refusal, place } => refused_words(refusal, place),
+        Err(e) => refused_words(e.refusal, e.place),
     }
 }
 
@@ -62,14 +62,14 @@ pub fn parsed_words(p: Parsed) -> [u64; 6]
     [w[0], w[1], w[2], w[3], w[4], p.position as u64]
 }
 
-pub fn stop_words(s: Stop) -> [u64; 5]
+pub fn stop_words(s: Result<Stop, Refused>) -> [u64; 5]
     ensures { result ≡ stop_words s }
 {
     match s {
-        Stop::End => [0, 0, 0, 0, 0],
-        Stop::Budget => [1, 0, 0, 0, 0],
-        Stop::Refused { refusal, place } => refused_words(refusal, place),
-        Stop::Full => [3, 33, 0, 0, 0],
+        Ok(Stop::End) => [0, 0, 0, 0, 0],
+        Ok(Stop::Budget) => [1, 0, 0, 0, 0],
+        Err(e) => refused_words(e.refusal, e.place),
+        Ok(Stop::Full) => [3, 33, 0, 0, 0],
     }
 }
 
@@ -91,13 +91,13 @@ pub fn listed_words(l: Listed) -> [u64; 7]
 }
 
 // 1 and the position past a form, or 2 and a refusal; 41 and 42 have their place too.
-pub fn folded_words(f: Folded) -> [u64; 5]
+pub fn folded_words(f: Result<usize, FoldError>) -> [u64; 5]
     ensures { result ≡ folded_words f }
 {
     match f {
-        Folded::Refused { refusal, place } => refused_words(refusal, place),
-        Folded::TooDeep { place } => [2, 41, place as u64, 0, 0],
-        Folded::Unclosed { place } => [2, 42, place as u64, 0, 0],
-        Folded::Past(position) => [1, position as u64, 0, 0, 0],
+        Ok(position) => [1, position as u64, 0, 0, 0],
+        Err(FoldError::Refused(e)) => refused_words(e.refusal, e.place),
+        Err(FoldError::TooDeep { place }) => [2, 41, place as u64, 0, 0],
+        Err(FoldError::Unclosed { place }) => [2, 42, place as u64, 0, 0],
     }
 }

@@ -12,7 +12,7 @@ use Rattle.wat.specs.Answers.{Answer}
 use Rattle.wat.specs.declared.TokenKind.TheVariants as kind
 use Rattle.wat.specs.declared.Refusal.TheVariants.{Lexical}
 use Rattle.wat.specs.Answers as answer
-use Rattle.wat.specs.declared.Found.TheVariants as found
+use Rattle.wat.specs.Found as found
 use Rattle.wat.specs.Faults.{fault}
 use Rattle.wat.specs.Bytes.{byte}
 use Rattle.wat.specs.Utf8.{WellFormed}

@@ -15,8 +15,8 @@ ghost use Rattle.lex_token.specs.Steps.{Faults};
 use lex_classes::Table;
 use utf8_chars::Char;
 use wat::{
-    Family, Fault, Found, Hidden, LexError, Lexeme, Parsed, Refusal, Refused, RunEnd, Settings,
-    Token, TokenKind,
+    Family, Fault, Hidden, LexError, Lexeme, Parsed, Refusal, Refused, RunEnd, Settings, Token,
+    TokenKind,
 };
 
 // One token at a position.
@@ -26,7 +26,7 @@ pub fn parse(text: &[u8], settings: Settings, pos: usize) -> Parsed
 {
     match lex_entry::check(text, pos) {
         Err(Refused { refusal, place }) => Parsed {
-            found: Found::Refused { refusal, place },
+            found: Err(Refused { refusal, place }),
             position: pos,
         },
         Ok(()) => parse_at(text, settings, pos),
@@ -42,24 +42,24 @@ fn parse_at(text: &[u8], settings: Settings, pos: usize) -> Parsed
     let t = Table::new();
     match next(text, pos, settings, &t) {
         Ok(None) => Parsed {
-            found: Found::Nothing,
+            found: Ok(None),
             position: pos,
         },
         Ok(Some(Lexeme { kind, len })) => Parsed {
-            found: Found::Token(Token {
+            found: Ok(Some(Token {
                 kind,
                 offset: pos,
                 len: len as u32,
-            }),
+            })),
             position: pos + len,
         },
         Err(fault) => {
             let error = fault.error;
             Parsed {
-                found: Found::Refused {
+                found: Err(Refused {
                     refusal: Refusal::Lexical(error),
                     place: pos + fault.place,
-                },
+                }),
                 position: pos + fault.after,
             }
         }
@@ -191,43 +191,41 @@ fn no_error(at: usize) -> Fault {
 
 // The annotation at a position, if one is there. A position at which no `@` stands is not looked at further.
 #[tactic(auto, using(lex_entry::proofs::CheckLaws::annotates))]
-pub fn annotation(text: &[u8], settings: Settings, pos: usize) -> Found
+pub fn annotation(text: &[u8], settings: Settings, pos: usize) -> Result<Option<Token>, Refused>
     ensures { Annotates settings text.now pos result }
 {
-    match lex_entry::check_text(text, pos) {
-        Err(Refused { refusal, place }) => Found::Refused { refusal, place },
-        Ok(()) => annotation_at(text, settings, pos),
-    }
+    lex_entry::check_text(text, pos)?;
+    annotation_at(text, settings, pos)
 }
 
 // The same in a text that is checked.
 #[tactic(auto, using(crate::proofs::CallLaws::signs))]
-fn annotation_at(text: &[u8], settings: Settings, pos: usize) -> Found
+fn annotation_at(text: &[u8], settings: Settings, pos: usize) -> Result<Option<Token>, Refused>
     requires { Text text.now }
     ensures { Annotates settings text.now pos result }
 {
     if !lex_token::is_at(text, pos, b'@') {
-        return Found::Nothing;
+        return Ok(None);
     }
     let t = Table::new();
     match next(text, pos, settings, &t) {
-        Ok(None) => Found::Nothing,
+        Ok(None) => Ok(None),
         Err(fault) => {
             let error = fault.error;
-            Found::Refused {
+            Err(Refused {
                 refusal: Refusal::Lexical(error),
                 place: pos + fault.place,
-            }
+            })
         }
         Ok(Some(Lexeme { kind, len })) => {
             if kind == TokenKind::Annotation {
-                return Found::Token(Token {
+                return Ok(Some(Token {
                     kind,
                     offset: pos,
                     len: len as u32,
-                });
+                }));
             }
-            Found::Nothing
+            Ok(None)
         }
     }
 }

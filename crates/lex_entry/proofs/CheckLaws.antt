@@ -1,7 +1,7 @@
 -- What the checks of a text and a position say of the calls. Assumes nothing.
 use Prim.Native.Nat.{ℕ}
 use mathlib.Core.List.{List}
-use Rattle.wat.specs.declared.Found.TheVariants as found
+use Rattle.std.specs.Prelude.{Err}
 use Rattle.wat.specs.declared.Settings.{Settings}
 use Rattle.wat.specs.declared.Refused.{Refused}
 use Rattle.wat.specs.Calls as calls
@@ -14,7 +14,7 @@ module _ {text : List ℕ} {pos : ℕ} where
   refuses (RefusesText.not_utf8 h b) = calls.Rejected.not_utf8 h b
 
   -- the same of `annotation`
-  pub annotates : {σ : Settings} {r : Refused} → RefusesText text pos r → calls.Annotates σ text pos (found.Refused r.refusal r.place)
+  pub annotates : {σ : Settings} {r : Refused} → RefusesText text pos r → calls.Annotates σ text pos (Err r)
   annotates (RefusesText.too_long h) = calls.Annotates.too_long h
   annotates (RefusesText.not_utf8 h b) = calls.Annotates.not_utf8 h b
 

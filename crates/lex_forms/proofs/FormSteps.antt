@@ -17,8 +17,13 @@ use Rattle.wat.proofs.Unique.{token_same, lexed_one}
 use Rattle.wat_laws.proofs.Walks.{walked_start, walked_one, walked_then, walked_more, stands_on}
 use Rattle.wat_laws.proofs.Divisions.{token_size}
 use Rattle.lex_calls.proofs.CallLaws.{fault_fits}
-use Rattle.wat_forms.specs.declared.Folded.{Folded}
-use Rattle.wat_forms.specs.declared.Folded.TheVariants as folded
+use Rattle.wat_forms.specs.Folded.{Folded}
+use Rattle.wat_forms.specs.Folded as folded
+use Rattle.std.specs.Prelude.{Ok, Err, IsErr, IsErrAnd}
+use Rattle.wat.specs.declared.Refused.{Refused}
+use Rattle.wat_forms.specs.declared.FoldError.{FoldError}
+use Rattle.wat_forms.specs.declared.FoldError.TheVariants as error
+use Rattle.lex_entry.specs.Checks.{Refuses}
 use Rattle.wat_forms.specs.Forms.{Opens, Closes, Forms, Form, Inside, Begun, deepest, Halts, Folds}
 use Rattle.lex_forms.specs.Inner.{InnerFolds}
 
@@ -155,6 +160,12 @@ module _ {σ : Settings} {text : List ℕ} {start d at : ℕ} (p : Passed σ tex
       inner_refused (InnerFolds.too_deep w i x) y = InnerFolds.too_deep (onward w) (inside_behind level p.forms Opens.opens i) x
       inner_refused (InnerFolds.left_open w i e) y = InnerFolds.left_open (onward w) (inside_behind level p.forms Opens.opens i) e
 
+-- `?` passes the refusal on as it is
+pub same_refused : {σ : Settings} {text : List ℕ} {start d : ℕ} {r q : Folded} {e : FoldError} → InnerFolds σ text start d r
+    → r ≡ Err e → IsErr q × IsErrAnd q (λ x. x ≡ e) → InnerFolds σ text start d q
+same_refused {q = Err x} i w f = rw (f.1) (rw w at i)
+same_refused {q = Ok n} i w f = absurd (f.1)
+
 -- ---- from what is next at a position to the answer of `fold`
 
 module _ {σ : Settings} {text : List ℕ} {pos : ℕ} (s : Stands text pos) where
@@ -184,6 +195,11 @@ module _ {σ : Settings} {text : List ℕ} {pos : ℕ} (s : Stands text pos) whe
       go (InnerFolds.too_deep w i x) = Folds.walks s (opening_walked s l w) (Halts.too_deep (Begun.begun Opens.opens i) x)
       go (InnerFolds.left_open w i q) = Folds.walks s (opening_walked s l w) (Halts.left_open (Begun.begun Opens.opens i) q)
 
+-- 1 to 4
+pub folds_rejected : {σ : Settings} {text : List ℕ} {pos : ℕ} {r : Refused} {e : FoldError} → Refuses text pos r
+    → e ≡ error.Refused r → Folds σ text pos (Err e)
+folds_rejected h q = rw q (Folds.rejected h)
+
 -- what `inner`, `fold_at` and `fold` answer
 pub ruleset inners = (
   passed_none,
@@ -203,4 +219,4 @@ pub ruleset inners = (
 
 pub ruleset folding = (folds_other, folds_end, folds_fault, folds_form, stands_on)
 
-pub ruleset refusals = (Folds.rejected)
+pub ruleset refusals = (folds_rejected)

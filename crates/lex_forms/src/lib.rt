@@ -5,35 +5,33 @@
 ghost use Rattle.std.specs.Prelude.{◌≡◌};
 ghost use Rattle.wat.specs.declared.Refusal.TheVariants.{NotThatKind};
 ghost use Rattle.wat.specs.Calls.{Stands};
-ghost use Rattle.wat_forms.specs.declared.Folded.TheVariants as folded;
+ghost use Rattle.wat_forms.specs.Folded as folded;
 ghost use Rattle.wat_forms.specs.Forms.{Folds};
 ghost use Rattle.lex_forms.specs.Inner.{InnerFolds};
 
 use lex_classes::Table;
 use wat::{Lexeme, Refusal, Refused, Settings, TokenKind};
-use wat_forms::Folded;
+use wat_forms::{FoldError, LEVELS};
 
 // The position past the form that begins at a position.
 #[tactic(auto, using(crate::proofs::FormSteps::refusals))]
-pub fn fold(text: &[u8], settings: Settings, pos: usize) -> Folded
+pub fn fold(text: &[u8], settings: Settings, pos: usize) -> Result<usize, FoldError>
     ensures { Folds settings text.now pos result }
 {
-    match lex_entry::check(text, pos) {
-        Err(Refused { refusal, place }) => Folded::Refused { refusal, place },
-        Ok(()) => fold_at(text, settings, pos),
-    }
+    lex_entry::check(text, pos)?;
+    fold_at(text, settings, pos)
 }
 
 // The same at a position that stands.
 #[tactic(auto, using(crate::proofs::FormSteps::folding))]
-fn fold_at(text: &[u8], settings: Settings, pos: usize) -> Folded
+fn fold_at(text: &[u8], settings: Settings, pos: usize) -> Result<usize, FoldError>
     requires { Stands text.now pos }
     ensures { Folds settings text.now pos result }
 {
     let t = Table::new();
     match lex_calls::next(text, pos, settings, &t) {
         Ok(Some(Lexeme { kind, len })) => match kind {
-            TokenKind::LParen => inner(text, pos + len, Folded::LEVELS - 1, settings, &t),
+            TokenKind::LParen => inner(text, pos + len, LEVELS - 1, settings, &t),
             _ => no_form(),
         },
         Ok(None) => no_form(),
@@ -42,44 +40,47 @@ fn fold_at(text: &[u8], settings: Settings, pos: usize) -> Folded
 }
 
 // 31, which has no place.
-fn no_form() -> Folded
+fn no_form() -> Result<usize, FoldError>
     ensures { result ≡ folded.Refused NotThatKind 0 }
 {
-    Folded::Refused {
+    Err(FoldError::Refused(Refused {
         refusal: Refusal::NotThatKind,
         place: 0,
-    }
+    }))
 }
 
 // The position past the form in which a place stands, if nothing refuses it before. In it `left` levels more may be
 // opened. Each form in it is passed by a call of the function itself, and reading goes on behind it, so that no token is
 // lexed twice.
 #[tactic(auto, using(crate::proofs::FormSteps::inners))]
-fn inner(text: &[u8], start: usize, left: usize, settings: Settings, t: &Table) -> Folded
+fn inner(
+    text: &[u8],
+    start: usize,
+    left: usize,
+    settings: Settings,
+    t: &Table,
+) -> Result<usize, FoldError>
     requires stands { Stands text.now start }
     ensures { InnerFolds settings text.now start left result }
 {
     let mut at = start;
     loop {
         match lex_calls::next(text, at, settings, t) {
-            Ok(None) => return Folded::Unclosed { place: at },
+            Ok(None) => return Err(FoldError::Unclosed { place: at }),
             Err(fault) => {
                 let error = fault.error;
-                return Folded::Refused {
+                return Err(FoldError::Refused(Refused {
                     refusal: Refusal::Lexical(error),
                     place: at + fault.place,
-                };
+                }));
             }
             Ok(Some(Lexeme { kind, len })) => match kind {
-                TokenKind::RParen => return Folded::Past(at + len),
+                TokenKind::RParen => return Ok(at + len),
                 TokenKind::LParen => {
                     if left == 0 {
-                        return Folded::TooDeep { place: at };
+                        return Err(FoldError::TooDeep { place: at });
                     }
-                    match inner(text, at + len, left - 1, settings, t) {
-                        Folded::Past(end) => at = end,
-                        other => return other,
-                    }
+                    at = inner(text, at + len, left - 1, settings, t)?;
                 }
                 _ => at += len,
             },

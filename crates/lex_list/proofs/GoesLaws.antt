@@ -6,11 +6,12 @@ use Rattle.std.specs.Prelude.{Option, Some, None}
 use native.Mathlib.Omega.{arith}
 use lib.ListN.{length, take, drop, length-append, take-append-drop}
 use lib.Seq.{drop-drop, take-append_seam, drop-append_seam}
-use Rattle.wat.specs.declared.{TokenKind.TokenKind, Settings.Settings, Fault.Fault, Stop.Stop}
+use Rattle.wat.specs.declared.{TokenKind.TokenKind, Settings.Settings, Fault.Fault}
 use Rattle.wat.specs.Answers.{Answer}
 use Rattle.wat.specs.declared.Refusal.TheVariants.{Lexical}
+use Rattle.wat.specs.Stopped.{Stopped}
 use Rattle.wat.specs.Answers as answer
-use Rattle.wat.specs.declared.Stop.TheVariants as stop
+use Rattle.wat.specs.Stopped as stop
 use Rattle.wat.specs.Cases.{kind_number}
 use Rattle.wat.specs.Lexing.{Lexed}
 use Rattle.wat.specs.LexModel.{lex}
@@ -42,11 +43,11 @@ goes_start σ text start budget old s =
 
 module _ {σ : Settings} {text : List ℕ} {start budget : ℕ} {old out : List ℕ} {at n : ℕ} (b : Stands text start)
     (g : Goes σ text start budget old out at n) where
-  abbrev pub Done : Stop → ℕ → Type 0
+  abbrev pub Done : Stopped → ℕ → Type 0
   Done why p = Listing σ text start budget old (record { stop = why; count = n; position = p }) out
 
   -- where the definitions stop, the answer is theirs
-  pub goes_stops : {why : Stop} {p : ℕ} → Stops σ text budget (length old) n at why p → Done why p
+  pub goes_stops : {why : Stopped} {p : ℕ} → Stops σ text budget (length old) n at why p → Done why p
   goes_stops {why} {p} s =
       let ts = g.tokens in
       let e = g.many in

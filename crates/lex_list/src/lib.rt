@@ -41,7 +41,7 @@ fn list_from(
     while at < text.len() {
         if n == budget {
             return Listed {
-                stop: Stop::Budget,
+                stop: Ok(Stop::Budget),
                 count: n,
                 position: at,
             };
@@ -50,17 +50,17 @@ fn list_from(
             let fault = lex_calls::fault_at(text, at, settings, &t);
             let error = fault.error;
             return Listed {
-                stop: Stop::Refused {
+                stop: Err(Refused {
                     refusal: Refusal::Lexical(error),
                     place: fault.place,
-                },
+                }),
                 count: n,
                 position: fault.after,
             };
         };
         if list.len() - used < Token::RECORD {
             return Listed {
-                stop: Stop::Full,
+                stop: Ok(Stop::Full),
                 count: n,
                 position: at,
             };
@@ -71,7 +71,7 @@ fn list_from(
         at = step.end;
     }
     Listed {
-        stop: Stop::End,
+        stop: Ok(Stop::End),
         count: n,
         position: at,
     }
@@ -84,7 +84,7 @@ pub fn list(text: &[u8], settings: Settings, start: usize, budget: usize, list: 
 {
     match lex_entry::check(text, start) {
         Err(Refused { refusal, place }) => Listed {
-            stop: Stop::Refused { refusal, place },
+            stop: Err(Refused { refusal, place }),
             count: 0,
             position: start,
         },

@@ -11,8 +11,8 @@ ghost use Rattle.wat.specs.Settings.{plain};
 ghost use Rattle.wat_forms.specs.Forms.{Folds};
 ghost use Rattle.lex_struct.specs.Setters.{allowing, strictly};
 
-use wat::{Found, Listed, Settings, Token};
-use wat_forms::Folded;
+use wat::{Listed, Refused, Settings, Token};
+use wat_forms::FoldError;
 
 // A text of any bytes, which each call checks, and the settings by which it is read.
 #[derive(Clone, Copy)]
@@ -65,7 +65,7 @@ impl<'a> Lexer<'a> {
     }
 
     // One token at a position, which is lent and changed by the call.
-    pub fn parse(&self, pos: &mut usize) -> Found
+    pub fn parse(&self, pos: &mut usize) -> Result<Option<Token>, Refused>
         ensures { Parses self.now.settings self.now.text.now pos.old
             (record { found = result; position = pos.new }) }
     {
@@ -73,7 +73,7 @@ impl<'a> Lexer<'a> {
     }
 
     // The annotation at a position, if one is there.
-    pub fn annotation(&self, pos: usize) -> Found
+    pub fn annotation(&self, pos: usize) -> Result<Option<Token>, Refused>
         ensures { Annotates self.now.settings self.now.text.now pos result }
     {
         lex_calls::annotation(self.text, self.settings, pos)
@@ -88,7 +88,7 @@ impl<'a> Lexer<'a> {
     }
 
     // The position past the form that begins at a position.
-    pub fn fold(&self, pos: usize) -> Folded
+    pub fn fold(&self, pos: usize) -> Result<usize, FoldError>
         ensures { Folds self.now.settings self.now.text.now pos result }
     {
         lex_forms::fold(self.text, self.settings, pos)
@@ -96,7 +96,7 @@ impl<'a> Lexer<'a> {
 }
 
 // `parse` on plain parameters, so that its method is thin.
-fn parse_from(text: &[u8], settings: Settings, pos: &mut usize) -> Found
+fn parse_from(text: &[u8], settings: Settings, pos: &mut usize) -> Result<Option<Token>, Refused>
     ensures { Parses settings text.now pos.old
         (record { found = result; position = pos.new }) }
 {

@@ -21,7 +21,7 @@
 
 ghost use Rattle.std.specs.Prelude.{◌+◌, ◌≤◌};
 
-use wat::{Found, Listed, Parsed, Refusal};
+use wat::{Listed, Parsed, Refusal, Refused, Token};
 
 // A row of the file.
 pub const ROW: usize = 152;
@@ -65,13 +65,13 @@ fn message_agrees(row: &[u8; ROW], refusal: Refusal) -> bool {
     }
 }
 
-pub fn found_agrees(row: &[u8; ROW], found: Found) -> bool {
+pub fn found_agrees(row: &[u8; ROW], found: Result<Option<Token>, Refused>) -> bool {
     if !agrees(row, c_words::found_words(found)) {
         return false;
     }
     match found {
-        Found::Refused { refusal, place: _ } => message_agrees(row, refusal),
-        _ => true,
+        Ok(_) => true,
+        Err(e) => message_agrees(row, e.refusal),
     }
 }
 

@@ -7,9 +7,12 @@ use mathlib.Core.Option.{some}
 use native.Mathlib.Omega.{arith}
 use lib.ListN.{length, get_or}
 use Rattle.wat.specs.declared.{TokenKind.TokenKind, LexError.LexError, Settings.Settings, Token.Token, Refusal.Refusal}
-use Rattle.wat.specs.declared.{Refusal.TheVariants.Lexical, Stop.Stop}
-use Rattle.wat.specs.declared.Stop.TheVariants as stop
+use Rattle.wat.specs.declared.{Refusal.TheVariants.Lexical}
+use Rattle.std.specs.Prelude.{Ok, Err}
+use Rattle.wat.specs.declared.Stop.TheVariants as why
+use Rattle.wat.specs.Stopped as stop
 use Rattle.wat.specs.declared.TokenKind.TheVariants as kind
+use Rattle.wat.specs.Stopped.{Stopped}
 use Rattle.wat_values.specs.declared.{Reading.Reading, NameKind.NameKind, NameReading.NameReading}
 use Rattle.wat_values.specs.declared.Reading.TheVariants as reading
 use Rattle.wat_values.specs.declared.IntegerSign.TheVariants as integer
@@ -188,17 +191,17 @@ module _ (text w : List ℕ) {t : Token} (d : Denotes w t) where
 
 -- ---- a listing's words
 
-ended : (s : Stop) (rest : List ℕ) → get_or (stop_words s ++ rest) 0 0 ≡ 0 → s ≡ stop.End
-ended stop.End rest e = refl
-ended stop.Budget rest e = absurd (omega arith)
-ended (stop.Refused r p) rest e = absurd (omega arith)
-ended stop.Full rest e = absurd (omega arith)
+ended : (s : Stopped) (rest : List ℕ) → get_or (stop_words s ++ rest) 0 0 ≡ 0 → s ≡ stop.End
+ended (Ok why.End) rest e = refl
+ended (Ok why.Budget) rest e = absurd (omega arith)
+ended (Ok why.Full) rest e = absurd (omega arith)
+ended (Err r) rest e = absurd (omega arith)
 
-counted_word : (s : Stop) (n m : ℕ) → get_or (stop_words s ++ (n ∷ m ∷ [])) 5 0 ≡ n
-counted_word stop.End n m = refl
-counted_word stop.Budget n m = refl
-counted_word (stop.Refused r p) n m = refl
-counted_word stop.Full n m = refl
+counted_word : (s : Stopped) (n m : ℕ) → get_or (stop_words s ++ (n ∷ m ∷ [])) 5 0 ≡ n
+counted_word (Ok why.End) n m = refl
+counted_word (Ok why.Budget) n m = refl
+counted_word (Ok why.Full) n m = refl
+counted_word (Err r) n m = refl
 
 -- the token of a record
 said_denotes : {l : List ℕ} {ts : List _} {i : ℕ} (s : SaidOf l ts i)

@@ -7,19 +7,20 @@ use mathlib.Core.List.{List, [], ◌∷◌, ◌++◌}
 use lib.ListN.{length, take, drop, get_or}
 use denote.Ref.{Bor}
 use Rattle.std.specs.Prelude.{Result}
-use Rattle.wat.specs.declared.{TokenKind.TokenKind, Found.Found, Parsed.Parsed, Listed.Listed}
+use Rattle.wat.specs.declared.{TokenKind.TokenKind, Parsed.Parsed, Listed.Listed}
 use Rattle.wat.specs.Answers.{Answer}
 use Rattle.wat.specs.Checked.{Checked}
 use Rattle.wat.specs.declared.{Refusal.Refusal, Token.Token, Settings.Settings}
 use Rattle.wat.specs.declared.{Fault.Fault, LexError.TheVariants.UnexpectedEof, LexError.TheVariants.DoubleUnderscore}
 use Rattle.wat.specs.declared.Refusal.TheVariants.{Lexical}
-use Rattle.wat.specs.declared.Found.TheVariants as found
+use Rattle.wat.specs.Found.{Found}
+use Rattle.wat.specs.Found as found
 use Rattle.wat.specs.Answers as answer
-use Rattle.wat.specs.declared.Stop.TheVariants as stop
+use Rattle.wat.specs.Stopped as stop
 use Rattle.wat_values.specs.declared.{Reading.Reading, NameReading.NameReading, IntegerSign.IntegerSign, IntegerValue.IntegerValue}
 use Rattle.wat_values.specs.declared.FloatSign.{FloatSign}
-use Rattle.wat_forms.specs.declared.Folded.{Folded}
-use Rattle.wat_forms.specs.declared.Folded.TheVariants as folded
+use Rattle.wat_forms.specs.Folded.{Folded}
+use Rattle.wat_forms.specs.Folded as folded
 use Rattle.place.specs.declared.Place.{Place}
 use Rattle.wat.specs.Settings.{lenient}
 use Rattle.wat.specs.Utf8.{WellFormed, Says}

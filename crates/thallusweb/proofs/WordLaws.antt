@@ -4,12 +4,13 @@ use mathlib.Core.Path.{◌≡◌, sym, subst}
 use mathlib.Core.List.{List}
 use lib.ListN.{get_or}
 use Rattle.std.specs.Prelude.{Result}
-use Rattle.wat.specs.declared.{Found.Found, Parsed.Parsed, Listed.Listed, Token.Token, Refusal.Refusal}
+use Rattle.wat.specs.declared.{Parsed.Parsed, Listed.Listed, Token.Token, Refusal.Refusal}
 use Rattle.wat.specs.Checked.{Checked}
 use Rattle.wat_values.specs.declared.{Reading.Reading, NameReading.NameReading, IntegerSign.IntegerSign, IntegerValue.IntegerValue}
 use Rattle.wat_values.specs.declared.{FloatSign.FloatSign}
-use Rattle.wat_forms.specs.declared.Folded.{Folded}
+use Rattle.wat_forms.specs.Folded.{Folded}
 use Rattle.wat.specs.declared.Settings.{Settings}
+use Rattle.wat.specs.Found.{Found}
 use Rattle.wat.specs.Utf8.{Says}
 use Rattle.wat.specs.Calls.{Parses, Annotates}
 use Rattle.wat.specs.Division.{Listing}

@@ -1,12 +1,13 @@
 -- The promises of the calls exported to C: their words are those of the answer that the definitions give.
 use Rattle.std.specs.Prelude.{ℕ, List, get_or, Result}
-use Rattle.wat.specs.declared.{Token.Token, Refusal.Refusal, Found.Found, Parsed.Parsed, Listed.Listed}
+use Rattle.wat.specs.declared.{Token.Token, Refusal.Refusal, Parsed.Parsed, Listed.Listed}
 use Rattle.wat.specs.Checked.{Checked}
 use Rattle.wat_values.specs.declared.{Reading.Reading, NameReading.NameReading, IntegerSign.IntegerSign}
 use Rattle.wat_values.specs.declared.{FloatSign.FloatSign, IntegerValue.IntegerValue}
 use Rattle.wat_values.specs.declared.NameReading.TheVariants as name
-use Rattle.wat_forms.specs.declared.Folded.{Folded}
+use Rattle.wat_forms.specs.Folded.{Folded}
 use Rattle.wat.specs.declared.Settings.{Settings}
+use Rattle.wat.specs.Found.{Found}
 use Rattle.wat.specs.Utf8.{Says}
 use Rattle.wat.specs.Calls.{Parses, Annotates}
 use Rattle.wat.specs.Division.{Listing}

@@ -10,7 +10,8 @@ use lib.Dec.{leb, ltb, eqb}
 use lib.ListN.{length, drop}
 use lib.Seq.{drop-append_seam}
 use borrow.Author.Tests.{le-leb, lt-leb, leb-true, ltb-true, ltb-false, eqb-true}
-use Rattle.wat.specs.declared.{LexError.LexError, Fault.Fault}
+use Rattle.std.specs.Prelude.{Result, Err}
+use Rattle.wat.specs.declared.{LexError.LexError, Fault.Fault, Refusal.Refusal, Refused.Refused}
 use Rattle.wat.specs.Faults.{fault, shift}
 use Rattle.wat.specs.Bytes.{between, has}
 
@@ -103,3 +104,11 @@ or_split false b e = inr e
 pub or_no : (a b : Bool) → a || b ≡ false → (a ≡ false) × (b ≡ false)
 or_no true b e = absurd (never refl e)
 or_no false b e = (refl, e)
+
+-- equal refusals have the same reason, at the same place
+pub refused_same : {T : Type 0} {r r' : Refusal} {p p' : ℕ}
+    → ◌≡◌ {A = Result T Refused} (Err (record { refusal = r; place = p })) (Err (record { refusal = r'; place = p' }))
+    → (r ≡ r') × (p ≡ p')
+refused_same {r = r} {r' = r'} {p = p} {p' = p'} e =
+    let d : ◌≡◌ {A = Refused} (record { refusal = r; place = p }) (record { refusal = r'; place = p' }) = cc in
+    (ap (λ (x : Refused). x.refusal) d, ap (λ (x : Refused). x.place) d)

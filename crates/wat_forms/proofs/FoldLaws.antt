@@ -8,7 +8,7 @@ use lib.ListN.{length, drop, drop_of_length-le}
 use Rattle.wat.specs.declared.Settings.{Settings}
 use Rattle.wat.specs.declared.TokenKind.TheVariants as kind
 use Rattle.wat.specs.Answers as answer
-use Rattle.wat_forms.specs.declared.Folded.{Folded}
+use Rattle.wat_forms.specs.Folded.{Folded}
 use Rattle.wat.specs.{Lexing.Lexed, Division.Piece, Division.lengths, Division.Divided, Division.Walked}
 use Rattle.wat.proofs.Basics.{differ}
 use Rattle.wat.proofs.Unique.{token_same, lexed_one}

@@ -10,8 +10,8 @@ use Rattle.wat.specs.declared.{Settings.Settings}
 use Rattle.wat.specs.declared.TokenKind.TheVariants as kind
 use Rattle.wat.specs.declared.Refusal.TheVariants.{Lexical}
 use Rattle.wat.specs.Answers as answer
-use Rattle.wat_forms.specs.declared.Folded.{Folded}
-use Rattle.wat_forms.specs.declared.Folded.TheVariants as folded
+use Rattle.wat_forms.specs.Folded.{Folded}
+use Rattle.wat_forms.specs.Folded as folded
 use Rattle.wat.specs.{Lexing.Lexed, Calls.Text, Calls.Stands}
 use Rattle.wat.specs.Division.{Piece, lengths, Divided, Walked}
 use Rattle.wat_laws.proofs.OneCall.{stands_or_rejected}

@@ -9,8 +9,8 @@ use lib.ListN.{drop}
 use Rattle.wat.specs.declared.{TokenKind.TokenKind, Settings.Settings}
 use Rattle.wat.specs.declared.TokenKind.TheVariants as kind
 use Rattle.wat.specs.Answers as answer
-use Rattle.wat_forms.specs.declared.Folded.{Folded}
-use Rattle.wat_forms.specs.declared.Folded.TheVariants as folded
+use Rattle.wat_forms.specs.Folded.{Folded}
+use Rattle.wat_forms.specs.Folded as folded
 use Rattle.wat.specs.{Settings.lenient, Lexing.Lexed, Division.Piece, Division.lengths, Division.Divided, Division.Walked}
 use Rattle.wat.proofs.{Basics.differ, Unique.token_same, Unique.lexed_one}
 use Rattle.wat_laws.specs.Looser.{Looser}

@@ -11,8 +11,8 @@ use Rattle.wat.specs.declared.LexError.TheVariants.{DoubleUnderscore}
 use Rattle.wat.specs.declared.Refusal.TheVariants.{Lexical}
 use Rattle.wat.specs.Answers as answer
 use Rattle.wat.specs.declared.Family.TheVariants.{Run as run}
-use Rattle.wat_forms.specs.declared.Folded.{Folded}
-use Rattle.wat_forms.specs.declared.Folded.TheVariants as folded
+use Rattle.wat_forms.specs.Folded.{Folded}
+use Rattle.wat_forms.specs.Folded as folded
 use Rattle.wat.specs.{Bytes.byte, Utf8.WellFormed, Division.Piece}
 use Rattle.wat.specs.Lexing.{Fails, Lexed}
 use Rattle.wat.specs.LexModel.{family}

@@ -5,8 +5,8 @@ use Rattle.wat.specs.declared.{TokenKind.TokenKind, Settings.Settings}
 use Rattle.wat.specs.declared.TokenKind.TheVariants as kind
 use Rattle.wat.specs.Answers as answer
 use Rattle.wat.specs.declared.Refusal.TheVariants.{NotThatKind}
-use Rattle.wat_forms.specs.declared.Folded.{Folded}
-use Rattle.wat_forms.specs.declared.Folded.TheVariants as folded
+use Rattle.wat_forms.specs.Folded.{Folded}
+use Rattle.wat_forms.specs.Folded as folded
 use Rattle.wat.specs.{Lexing.Lexed, Division.Piece, Division.Walked}
 use Rattle.wat_forms.specs.Forms.{deepest, Form, Folds}
 

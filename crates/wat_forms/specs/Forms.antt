@@ -6,8 +6,8 @@ use Rattle.wat.specs.declared.{Settings.Settings, Fault.Fault, Refusal.Refusal}
 use Rattle.wat.specs.declared.TokenKind.TheVariants as kind
 use Rattle.wat.specs.declared.Refusal.TheVariants.{Lexical, NotThatKind}
 use Rattle.wat.specs.Answers as answer
-use Rattle.wat_forms.specs.declared.Folded.{Folded}
-use Rattle.wat_forms.specs.declared.Folded.TheVariants as folded
+use Rattle.wat_forms.specs.Folded.{Folded}
+use Rattle.wat_forms.specs.Folded as folded
 use Rattle.wat.specs.{Lexing.Lexed, Calls.Stands, Calls.Rejected, Division.Piece, Division.Walked}
 
 -- ---- forms

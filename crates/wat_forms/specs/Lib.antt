@@ -1,3 +1,4 @@
+pub mod Folded
 pub mod Forms
 pub mod Balance
 pub mod Windows

@@ -3,8 +3,8 @@ use Rattle.std.specs.Prelude.{ℕ, ◌+◌, ◌<◌, ◌≡◌, List, length}
 use Rattle.wat.specs.declared.LexError.{LexError}
 use Rattle.wat.specs.declared.LexError.TheVariants.{DanglingBlockComment, ConfusingUnicode}
 use Rattle.wat.specs.declared.Refusal.TheVariants.{Lexical, NotThatKind}
-use Rattle.wat_forms.specs.declared.Folded.{Folded}
-use Rattle.wat_forms.specs.declared.Folded.TheVariants as folded
+use Rattle.wat_forms.specs.Folded.{Folded}
+use Rattle.wat_forms.specs.Folded as folded
 
 -- an answer for a position of a piece of a text that is also the text's: the end of a form, also where the piece ends
 -- there; 31, where a byte of the piece follows the one at the position; an error other than 10 and 21, where more than

@@ -9,14 +9,15 @@ use lib.Dec.{ltb}
 use lib.ListN.{length, drop, replicate, length-append, length-drop}
 use lib.Seq.{drop-drop, drop-append_seam}
 use borrow.Author.Tests.{lt-ltb, ltb-true}
-use Rattle.wat.specs.declared.{Fault.Fault, LexError.LexError, Settings.Settings, Stop.Stop, Listed.Listed}
+use Rattle.wat.specs.declared.{Fault.Fault, LexError.LexError, Settings.Settings, Listed.Listed}
 use Rattle.wat.specs.declared.LexError.TheVariants.{UnexpectedEof}
 use Rattle.wat.specs.declared.Refusal.{Refusal}
 use Rattle.wat.specs.declared.Refusal.TheVariants.{Lexical}
 use Rattle.wat.specs.Answers as answer
-use Rattle.wat.specs.declared.Found.TheVariants as found
+use Rattle.wat.specs.Found as found
 use Rattle.wat.specs.declared.Parsed.{Parsed}
-use Rattle.wat.specs.declared.Stop.TheVariants as stop
+use Rattle.wat.specs.Stopped.{Stopped}
+use Rattle.wat.specs.Stopped as stop
 use Rattle.wat.specs.Bytes.{bytes, Each}
 use Rattle.wat.specs.Utf8.{scalar, WellFormed, empty}
 use Rattle.wat.specs.Strings.{Hex, HexNum, escapes, Elem, Elems, Str}
@@ -25,7 +26,7 @@ use Rattle.wat.specs.Tokens.{Run}
 use Rattle.wat.specs.Lexing.{Fails, Lexed}
 use Rattle.wat.specs.Calls.{Stands, Rejected, Parses}
 use Rattle.wat.specs.Division.{Stops, Listing}
-use Rattle.wat.proofs.Basics.{differ, pairs_listed}
+use Rattle.wat.proofs.Basics.{differ, pairs_listed, refused_same}
 use Rattle.wat.proofs.Scalars.{after, after_ascii}
 use Rattle.wat.proofs.HexDigits.{hex_ascii}
 use Rattle.wat.proofs.ElementReads.{Letter, letters}
@@ -158,17 +159,17 @@ rejected_other (Rejected.inside t h n) q = differ (cc)
 
 pub parses_fault_stands : {σ : Settings} {text : List ℕ} {pos p : ℕ} {r : Parsed} {e : LexError} → Parses σ text pos r
     → r.found ≡ found.Refused (Lexical e) p → Stands text r.position
-parses_fault_stands {e = e} (Parses.rejected t) q = absurd (rejected_other {e = e} t (cc))
+parses_fault_stands {e = e} (Parses.rejected t) q = absurd (rejected_other {e = e} t (refused_same q).0)
 parses_fault_stands (Parses.lexes s (Lexed.end n)) q = differ (cc)
 parses_fault_stands (Parses.lexes s (Lexed.token l n)) q = differ (cc)
 parses_fault_stands (Parses.lexes s (Lexed.fails x)) q = fault_stands s (Lexed.fails x)
 
 pub listing_fault_stands : {σ : Settings} {text : List ℕ} {start budget p : ℕ} {list l : List ℕ} {r : Listed} {e : LexError}
     → Listing σ text start budget list r l → r.stop ≡ stop.Refused (Lexical e) p → Stands text r.position
-listing_fault_stands {e = e} (Listing.rejected t) q = absurd (rejected_other {e = e} t (cc))
+listing_fault_stands {e = e} (Listing.rejected t) q = absurd (rejected_other {e = e} t (refused_same q).0)
 listing_fault_stands {σ} {text} {e = e} (Listing.lists s w f g x) q = stopped w.stands x q
   where
-    stopped : {budget room n at p place : ℕ} {why : Stop} → Stands text at → Stops σ text budget room n at why p
+    stopped : {budget room n at p place : ℕ} {why : Stopped} → Stands text at → Stops σ text budget room n at why p
         → why ≡ stop.Refused (Lexical e) place → Stands text p
     stopped s (Stops.end e) q = differ (cc)
     stopped s (Stops.budget h e) q = differ (cc)

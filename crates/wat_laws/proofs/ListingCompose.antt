@@ -7,8 +7,9 @@ use mathlib.Core.List.{List, ◌++◌, append_assoc}
 use native.Mathlib.Omega.{arith}
 use lib.ListN.{length, take, drop, length-append}
 use lib.Seq.{drop-drop, take_at, drop-append-add}
-use Rattle.wat.specs.declared.{Settings.Settings, Stop.Stop, Listed.Listed}
-use Rattle.wat.specs.declared.Stop.TheVariants as stop
+use Rattle.wat.specs.declared.{Settings.Settings, Listed.Listed}
+use Rattle.wat.specs.Stopped.{Stopped}
+use Rattle.wat.specs.Stopped as stop
 use Rattle.wat.specs.Calls.{Stands}
 use Rattle.wat.specs.Division.{Piece, lengths, Walked, record_size, records, Stops, Listing}
 use Rattle.wat_laws.specs.Windows.{Paused}
@@ -20,7 +21,7 @@ use Rattle.wat_laws.proofs.Walks.{walked_then, records_length, records_append}
 
 module _ {σ : Settings} {text : List ℕ} {budget room n at : ℕ} where
   -- short of a refusal, the position is where the walk ended
-  stops_at : {p : ℕ} {why : Stop} → Stops σ text budget room n at why p → (why ≡ stop.End) ⊎ Paused why → p ≡ at
+  stops_at : {p : ℕ} {why : Stopped} → Stops σ text budget room n at why p → (why ≡ stop.End) ⊎ Paused why → p ≡ at
   stops_at (Stops.end e) q = refl
   stops_at (Stops.budget h e) q = refl
   stops_at (Stops.fault h l) (inl q) = differ (cc)
@@ -29,7 +30,7 @@ module _ {σ : Settings} {text : List ℕ} {budget room n at : ℕ} where
   stops_at (Stops.full h i l) q = refl
 
   -- c tokens before, with budget and room for them, change no stop
-  stops_behind : (c wide many : ℕ) {p : ℕ} {why : Stop} → wide ≡ record_size * c + room → many ≡ c + n
+  stops_behind : (c wide many : ℕ) {p : ℕ} {why : Stopped} → wide ≡ record_size * c + room → many ≡ c + n
       → Stops σ text budget room n at why p → Stops σ text (c + budget) wide many at why p
   stops_behind c wide many q m (Stops.end e) = Stops.end e
   stops_behind c wide many q m (Stops.budget h e) = Stops.budget h (omega arith)

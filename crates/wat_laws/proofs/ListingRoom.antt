@@ -5,15 +5,16 @@ use mathlib.Core.Path.{◌≡◌}
 use mathlib.Core.List.{List}
 use native.Mathlib.Omega.{arith}
 use lib.ListN.{length, length-drop}
-use Rattle.wat.specs.declared.{Settings.Settings, Stop.Stop, Listed.Listed}
+use Rattle.wat.specs.declared.{Settings.Settings, Listed.Listed}
 use Rattle.wat.specs.declared.Refusal.TheVariants.{Lexical}
-use Rattle.wat.specs.declared.Stop.TheVariants as stop
+use Rattle.wat.specs.Stopped.{Stopped}
+use Rattle.wat.specs.Stopped as stop
 use Rattle.wat.specs.Division.{Piece, Walked, record_size, Stops, Listing}
 use Rattle.wat_laws.specs.Windows.{Settled}
 use Rattle.wat.proofs.Basics.{differ}
 use Rattle.wat_laws.proofs.Divisions.{token_size, divided_count}
 
-stops_settled : {σ : Settings} {text : List ℕ} {start budget room at p : ℕ} {ts : List Piece} {why : Stop}
+stops_settled : {σ : Settings} {text : List ℕ} {start budget room at p : ℕ} {ts : List Piece} {why : Stopped}
     → Walked σ text start at ts → length text - start ≤ budget → record_size * (length text - start) ≤ room
     → Stops σ text budget room (length ts) at why p → Settled text start why
 stops_settled w b m (Stops.end e) = Settled.end
@@ -29,7 +30,7 @@ pub room_settles : {σ : Settings} {text : List ℕ} {start budget : ℕ} {list 
 room_settles (Listing.rejected t) b m = Settled.rejected t
 room_settles (Listing.lists s w f g h) b m = stops_settled w b m h
 
-settled_stop : {text : List ℕ} {start : ℕ} {why : Stop} → Settled text start why
+settled_stop : {text : List ℕ} {start : ℕ} {why : Stopped} → Settled text start why
     → (why ≡ stop.Budget → ⊥) × (why ≡ stop.Full → ⊥)
 settled_stop Settled.end = (λ (e : stop.End ≡ stop.Budget). differ (cc), λ (e : stop.End ≡ stop.Full). differ (cc))
 settled_stop (Settled.rejected {r = r} {p = p} t) =

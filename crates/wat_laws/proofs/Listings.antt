@@ -6,10 +6,11 @@ use mathlib.Core.Logic.{◌⊎◌, inl, inr, ⊎_elim}
 use mathlib.Core.List.{List, [], ◌∷◌, ◌++◌}
 use native.Mathlib.Omega.{arith}
 use lib.ListN.{length, drop, length-append, length-drop, drop_of_length-le}
-use Rattle.wat.specs.declared.{TokenKind.TokenKind, Settings.Settings, Stop.Stop, Listed.Listed}
+use Rattle.wat.specs.declared.{TokenKind.TokenKind, Settings.Settings, Listed.Listed}
+use Rattle.wat.specs.Stopped.{Stopped}
 use Rattle.wat.specs.Answers.{Answer}
 use Rattle.wat.specs.Answers as answer
-use Rattle.wat.specs.declared.Stop.TheVariants as stop
+use Rattle.wat.specs.Stopped as stop
 use Rattle.wat.specs.Lexing.{Lexed}
 use Rattle.wat.specs.LexModel.{lex}
 use Rattle.wat.specs.Division.{Piece, lengths, Divided, Walked, record_size, Stops, Listing}
@@ -33,7 +34,7 @@ not_at_end {σ} {a} text at l h q = h (lexed_one l (Lexed.end (drop_of_length-le
 
 module _ {σ : Settings} {text : List ℕ} {budget room n at : ℕ} where
   -- a token follows, and there are budget and room for it: the listing does not stop
-  goes_on : {k : TokenKind} {m p : ℕ} {why : Stop} → Lexed σ (drop at text) (answer.Token k m) → n < budget
+  goes_on : {k : TokenKind} {m p : ℕ} {why : Stopped} → Lexed σ (drop at text) (answer.Token k m) → n < budget
       → record_size * n + record_size ≤ room
       → Stops σ text budget room n at why p → ⊥
   goes_on l b r (Stops.end e) = let z = token_size l in omega (arith, z.0, z.1, length-drop at text)
@@ -41,7 +42,7 @@ module _ {σ : Settings} {text : List ℕ} {budget room n at : ℕ} where
   goes_on l b r (Stops.fault h g) = let q = lexed_one l g in differ (cc)
   goes_on l b r (Stops.full h i g) = omega arith
 
-  stops_one : {p p' : ℕ} {why why' : Stop} → Stops σ text budget room n at why p
+  stops_one : {p p' : ℕ} {why why' : Stopped} → Stops σ text budget room n at why p
       → Stops σ text budget room n at why' p' → (why ≡ why') × (p ≡ p')
   stops_one (Stops.end e) (Stops.end e') = (refl, refl)
   stops_one (Stops.end e) (Stops.budget h e') = absurd (omega arith)
@@ -61,7 +62,7 @@ module _ {σ : Settings} {text : List ℕ} {budget room n at : ℕ} where
   stops_one (Stops.full h i g) (Stops.full h' i' g') = (refl, refl)
 
 -- what a listing hands out: so many tokens as budget and room allow, and why no more
-record Handed (σ : Settings) (text : List ℕ) (start budget room : ℕ) (ts : List Piece) (at : ℕ) (why : Stop) (p : ℕ) : Type 0 where
+record Handed (σ : Settings) (text : List ℕ) (start budget room : ℕ) (ts : List Piece) (at : ℕ) (why : Stopped) (p : ℕ) : Type 0 where
   walked : Walked σ text start at ts
   few : length ts ≤ budget
   fits : record_size * length ts ≤ room
@@ -69,14 +70,14 @@ record Handed (σ : Settings) (text : List ℕ) (start budget room : ℕ) (ts : 
 
 module _ {σ : Settings} {text : List ℕ} {start budget room : ℕ} where
   -- no listing stops before another goes on
-  not_fewer : {ts us : List Piece} {at bt p q : ℕ} {why that : Stop} → Handed σ text start budget room ts at why p
+  not_fewer : {ts us : List Piece} {at bt p q : ℕ} {why that : Stopped} → Handed σ text start budget room ts at why p
       → Handed σ text start budget room us bt that q
       → length ts < length us → ⊥
   not_fewer a b h =
       let t = divided_next a.walked.divided b.walked.divided h in
       goes_on t.1 (omega (arith, b.few)) (omega (arith, b.fits)) a.stops
 
-  handed_one : {ts us : List Piece} {at bt p q : ℕ} {why that : Stop} → Handed σ text start budget room ts at why p
+  handed_one : {ts us : List Piece} {at bt p q : ℕ} {why that : Stopped} → Handed σ text start budget room ts at why p
       → Handed σ text start budget room us bt that q
       → (ts ≡ us) × (why ≡ that) × (p ≡ q)
   handed_one {ts} {us} {at} {bt} {p} {q} {why} {that} a b =
@@ -112,11 +113,11 @@ listing_one (Listing.lists s w f g h) (Listing.lists s' w' f' g' h') =
 lists_on : (σ : Settings) (text : List ℕ) (start budget room b : ℕ) {at : ℕ} {ts : List Piece} → Walked σ text start at ts
     → length ts + b ≡ budget
     → record_size * length ts ≤ room
-    → (us : List Piece) × (bt : ℕ) × (why : Stop) × (p : ℕ) × Handed σ text start budget room us bt why p
+    → (us : List Piece) × (bt : ℕ) × (why : Stopped) × (p : ℕ) × Handed σ text start budget room us bt why p
 lists_on σ text start budget room zero {at} {ts} w e f = go (below at (length text))
   where
     go : (at < length text) ⊎ (length text ≤ at)
-        → (us : List Piece) × (bt : ℕ) × (why : Stop) × (p : ℕ) × Handed σ text start budget room us bt why p
+        → (us : List Piece) × (bt : ℕ) × (why : Stopped) × (p : ℕ) × Handed σ text start budget room us bt why p
     go (inl h) = (ts, at, stop.Budget, at, record { walked = w; few = omega arith; fits = f; stops = Stops.budget h (omega arith) })
     go (inr h) =
         (ts, at, stop.End, at, record { walked = w; few = omega arith; fits = f; stops = Stops.end (omega (arith, w.stands.within)) })
@@ -125,7 +126,7 @@ lists_on σ text start budget room (suc b) {at} {ts} w e f =
     (λ us i v g h. lists_on σ text start budget room b {at = i} {ts = us} v g h)
   where
     Out : Type 0
-    Out = (us : List Piece) × (bt : ℕ) × (why : Stop) × (p : ℕ) × Handed σ text start budget room us bt why p
+    Out = (us : List Piece) × (bt : ℕ) × (why : Stopped) × (p : ℕ) × Handed σ text start budget room us bt why p
 
     Next : Type 0
     Next = (us : List Piece) (i : ℕ) → Walked σ text start i us → length us + b ≡ budget → record_size * length us ≤ room
@@ -161,7 +162,7 @@ lists_all σ text start budget list = go (entering text start)
 
 -- ---- a text that the listing carries from byte 0 to its end
 
-pub end_at : {σ : Settings} {text : List ℕ} {budget room n at p : ℕ} {why : Stop} → Stops σ text budget room n at why p
+pub end_at : {σ : Settings} {text : List ℕ} {budget room n at p : ℕ} {why : Stopped} → Stops σ text budget room n at why p
     → why ≡ stop.End → at ≡ length text
 end_at (Stops.end e) q = e
 end_at (Stops.budget h e) q = differ (cc)

@@ -13,7 +13,7 @@ use Rattle.wat.specs.declared.Utf8Error.{Utf8Error}
 use Rattle.wat.specs.Checked.{Checked, Bad}
 use Rattle.wat.specs.declared.Refusal.{Refusal}
 use Rattle.wat.specs.declared.Parsed.{Parsed}
-use Rattle.wat.specs.declared.Found.{Found}
+use Rattle.wat.specs.Found.{Found}
 use Rattle.wat.specs.Answers.{Answer}
 use Rattle.wat.specs.declared.Settings.{Settings}
 use Rattle.wat.specs.Bytes.{byte}

@@ -4,12 +4,14 @@ use mathlib.Core.Path.{◌≡◌}
 use mathlib.Core.List.{List}
 use lib.ListN.{drop}
 use Rattle.std.specs.Prelude.{Some, None, Ok, Err}
-use Rattle.wat.specs.declared.{Settings.Settings, Found.Found, Parsed.Parsed, Listed.Listed, Stop.Stop, LexError.LexError}
+use Rattle.wat.specs.declared.{Settings.Settings, Parsed.Parsed, Listed.Listed, LexError.LexError}
 use Rattle.wat.specs.Answers.{Answer}
 use Rattle.wat.specs.declared.LexError.TheVariants.{DoubleUnderscore}
 use Rattle.wat.specs.declared.Refusal.TheVariants.{Lexical}
-use Rattle.wat.specs.declared.Found.TheVariants as found
-use Rattle.wat.specs.declared.Stop.TheVariants as stop
+use Rattle.wat.specs.Found.{Found}
+use Rattle.wat.specs.Stopped.{Stopped}
+use Rattle.wat.specs.Found as found
+use Rattle.wat.specs.Stopped as stop
 use Rattle.wat.specs.Utf8.{WellFormed}
 use Rattle.wat.specs.Calls.{at, Parses, Annotates}
 use Rattle.wat.specs.Division.{Stops, Listing}
@@ -46,7 +48,7 @@ annotates_unstrict {σ} {text} {pos} (Annotates.fault {f = f} t g l) n =
 
 -- ---- the listing
 
-stops_unstrict : {σ : Settings} {text : List ℕ} {budget room n at p : ℕ} {why : Stop} → WellFormed (drop at text)
+stops_unstrict : {σ : Settings} {text : List ℕ} {budget room n at p : ℕ} {why : Stopped} → WellFormed (drop at text)
     → Stops σ text budget room n at why p
     → ((q : ℕ) → why ≡ stop.Refused (Lexical DoubleUnderscore) q → ⊥) → Stops (unstrict σ) text budget room n at why p
 stops_unstrict g (Stops.end e) m = Stops.end e

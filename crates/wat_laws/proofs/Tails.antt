@@ -7,10 +7,11 @@ use native.Mathlib.Omega.{arith}
 use lib.ListN.{length, drop, length-append}
 use lib.Seq.{drop-append-add}
 use Rattle.std.specs.Prelude.{Some, None, Ok, Err}
-use Rattle.wat.specs.declared.{Settings.Settings, Parsed.Parsed, Stop.Stop, Listed.Listed}
+use Rattle.wat.specs.declared.{Settings.Settings, Parsed.Parsed, Listed.Listed}
 use Rattle.wat.specs.Answers.{Answer}
 use Rattle.wat.specs.declared.Refusal.TheVariants.{Lexical}
-use Rattle.wat.specs.declared.Stop.TheVariants as stop
+use Rattle.wat.specs.Stopped.{Stopped}
+use Rattle.wat.specs.Stopped as stop
 use Rattle.wat.specs.Lexing.{Lexed}
 use Rattle.wat.specs.Calls.{Text, Stands, at, Parses}
 use Rattle.wat.specs.Division.{Piece, Walked, record_size, records, Stops, Listing}
@@ -59,7 +60,7 @@ module _ (before tail : List ℕ) (whole : Text (before ++ tail)) where
       (records y ts ++ drop (record_size * length ts) list)) (left start)
       (Listing.lists (tail_stands s) (tail_walked w) f g (stops x))
     where
-      stops : {budget room n end p : ℕ} {why : Stop} → Stops σ tail budget room n end why p
+      stops : {budget room n end p : ℕ} {why : Stopped} → Stops σ tail budget room n end why p
           → Stops σ (before ++ tail) budget room n (length before + end) (moved_stop (length before) why) (length before + p)
       stops (Stops.end e) = Stops.end (omega (arith, length-append before tail))
       stops (Stops.budget h e) = Stops.budget (omega (arith, length-append before tail)) e

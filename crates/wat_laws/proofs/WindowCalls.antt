@@ -8,9 +8,10 @@ use native.Mathlib.Omega.{arith}
 use lib.ListN.{length, take, drop, length-append, length-drop, drop_of_length-le}
 use lib.Seq.{take-append-le, drop-append-le}
 use Rattle.wat.specs.declared.{Fault.Fault, Settings.Settings}
-use Rattle.wat.specs.declared.{Parsed.Parsed, Stop.Stop, Listed.Listed}
+use Rattle.wat.specs.declared.{Parsed.Parsed, Listed.Listed}
+use Rattle.wat.specs.Stopped.{Stopped}
 use Rattle.wat.specs.Answers.{Answer}
-use Rattle.wat.specs.declared.Stop.TheVariants as stop
+use Rattle.wat.specs.Stopped as stop
 use Rattle.wat.specs.Utf8.{WellFormed, empty, more}
 use Rattle.wat.specs.Lexing.{Fails, Lexed}
 use Rattle.wat.specs.Calls.{Text, Stands, Parses}
@@ -125,7 +126,7 @@ module _ (front rest : List ℕ) (whole : Text (front ++ rest)) where
           (same (drop t.len y) ts (omega (arith, length-drop t.len y)))
 
   -- a walk over the front, and why the text's listing stops where it ends
-  lists_window : {σ : Settings} {start budget at p : ℕ} {list : List ℕ} {ts : List Piece} {why : Stop} → Walked σ front start at ts
+  lists_window : {σ : Settings} {start budget at p : ℕ} {list : List ℕ} {ts : List Piece} {why : Stopped} → Walked σ front start at ts
       → at < length front → length ts ≤ budget → record_size * length ts ≤ length list
       → Stops σ (front ++ rest) budget (length list) (length ts) at why p
       → Listing σ (front ++ rest) start budget list (record { stop = why; count = length ts; position = p })
@@ -140,7 +141,7 @@ module _ (front rest : List ℕ) (whole : Text (front ++ rest)) where
   window_listing (Listing.rejected t) (DecidedStop.error n h) = absurd (rejected_other t refl)
   window_listing {σ} {start} {budget} {list} (Listing.lists {ts = ts} s w f g x) z = stopped w x z
     where
-      stopped : {at p : ℕ} {why : Stop} → Walked σ front start at ts → Stops σ front budget (length list) (length ts) at why p
+      stopped : {at p : ℕ} {why : Stopped} → Walked σ front start at ts → Stops σ front budget (length list) (length ts) at why p
           → DecidedStop front why p
           → Listing σ (front ++ rest) start budget list (record { stop = why; count = length ts; position = p })
           (records (drop start front) ts ++ drop (record_size * length ts) list)
@@ -178,7 +179,7 @@ module _ (front rest : List ℕ) (whole : Text (front ++ rest)) where
       some_left y (inl h) = h
       some_left y (inr h) = absurd (nil_fault y (drop_of_length-le front h))
 
-      before : {σ : Settings} {budget room n at p : ℕ} {why : Stop} → Stops σ front budget room n at why p
+      before : {σ : Settings} {budget room n at p : ℕ} {why : Stopped} → Stops σ front budget room n at why p
           → (why ≡ stop.End → ⊥) → at < length front
       before (Stops.end e) n = absurd (n refl)
       before (Stops.budget h e) n = h

@@ -3,9 +3,10 @@
 use Prim.Native.Nat.{ℕ}
 use mathlib.Core.Path.{◌≡◌, subst}
 use mathlib.Core.List.{List}
-use Rattle.wat.specs.declared.{Settings.Settings, Token.Token, Found.Found, Parsed.Parsed}
+use Rattle.wat.specs.declared.{Settings.Settings, Token.Token, Parsed.Parsed}
 use Rattle.wat.specs.declared.TokenKind.TheVariants as kind
-use Rattle.wat.specs.declared.Found.TheVariants as found
+use Rattle.wat.specs.Found.{Found}
+use Rattle.wat.specs.Found as found
 use Rattle.wat.specs.Lexing.{Lexed}
 use Rattle.wat.specs.Calls.{Parses, Annotates}
 use Rattle.wat_values.specs.Reading.{There}

@@ -13,7 +13,7 @@ use Rattle.wat.specs.declared.{Token.Token, Refusal.TheVariants.Lexical, Listed.
 use Rattle.wat_values.specs.declared.{Reading.Reading, NameKind.NameKind}
 use Rattle.wat.specs.Answers as answer
 use Rattle.wat_values.specs.declared.Reading.TheVariants.{Refused, Absent, Text, Buffer}
-use Rattle.wat.specs.declared.Stop.TheVariants as stop
+use Rattle.wat.specs.Stopped as stop
 use Rattle.wat.specs.declared.Settings.{Settings}
 use Rattle.wat.specs.Utf8.{WellFormed}
 use Rattle.wat.specs.Tokens.{Tok}

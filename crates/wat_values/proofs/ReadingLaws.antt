@@ -13,7 +13,7 @@ use Rattle.wat.specs.Answers as answer
 use Rattle.wat_values.specs.declared.{NameKind.NameKind, NameReading.NameReading}
 use Rattle.wat_values.specs.declared.Reading.TheVariants.{Refused, Text, Buffer}
 use Rattle.wat_values.specs.declared.NameReading.TheVariants as name
-use Rattle.wat.specs.declared.Stop.TheVariants as stop
+use Rattle.wat.specs.Stopped as stop
 use Rattle.wat.specs.declared.Settings.{Settings}
 use Rattle.wat.specs.Bytes.{byte, has}
 use Rattle.wat.specs.Utf8.{WellFormed}
