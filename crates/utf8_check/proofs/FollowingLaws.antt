@@ -70,27 +70,6 @@ each_more P from to all x before here e m h k =
     let o = or_zero all x e in
     ⊎_elim (λ l. before o.0 m h l) (λ l. let q : m ≡ to = omega arith in rw q (here o.1)) (below m to)
 
-pub low_right : (s : List ℕ) (i : ℕ) → Low s i (i + 64) → Right s i (i + 61)
-low_right s i h m a b =
-    let x₀ = h m (omega arith) (omega arith) in
-    let x₁ = h (m + 1) (omega arith) (omega arith) in
-    let x₂ = h (m + 2) (omega arith) (omega arith) in
-    let x₃ = h (m + 3) (omega arith) (omega arith) in
-    record {
-      second = λ k. absurd (omega arith);
-      third = λ k. absurd (omega arith);
-      fourth = λ k. absurd (omega arith);
-      first = λ _ _ _ k. omega arith;
-      used = λ k. absurd (omega arith);
-      ranged =
-          record {
-            after_e0 = λ k. absurd (omega arith);
-            after_ed = λ k. absurd (omega arith);
-            after_f0 = λ k. absurd (omega arith);
-            after_f4 = λ k. absurd (omega arith);
-          };
-    }
-
 -- of two runs the second may begin inside the first
 pub right_join : (s : List ℕ) (a b from e : ℕ) → from ≤ b → Right s a b → Right s from e → Right s a e
 right_join s a b from e l p q m h k = ⊎_elim (λ x. p m h x) (λ x. q m (omega arith) k) (below m b)

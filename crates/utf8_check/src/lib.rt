@@ -15,6 +15,7 @@ pub fn check(s: &[u8]) -> Result<(), Utf8Error>
     ensures { Says s.now result }
 {
     let mut i = blocks::pass(s);
+    // by as many bytes as the character has that stands there: no iterator steps so
     while i < s.len() {
         if s[i] < 0x80 {
             i += 1;

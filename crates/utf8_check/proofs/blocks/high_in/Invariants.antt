@@ -1,10 +1,7 @@
 -- If the number is 0, the bytes passed are ASCII.
-use Rattle.std.proofs.Common.{◌≡◌, ◌+◌, ◌-◌, ◌≤◌}
+use Rattle.std.proofs.Common.{◌≡◌, ◌+◌}
 use Rattle.utf8_check.specs.Following.{Low}
 use Rattle.utf8_check.proofs.blocks.high_in.Given as goal
 
 abbrev pub invariant-loop-k : goal.invariant-loop-k
-invariant-loop-k l = (l.k ≤ l.n) × (l.all ≡ 0 → Low l.s l.from (l.from + l.k))
-
-abbrev pub decreases-loop-k : goal.decreases-loop-k
-decreases-loop-k l = l.n - l.k
+invariant-loop-k l = l.all ≡ 0 → Low l.s l.from (l.from + l.k)

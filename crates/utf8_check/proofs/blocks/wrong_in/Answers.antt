@@ -8,9 +8,7 @@ pub loop-k-preserved : goal.loop-k-preserved
 loop-k-preserved c =
     let s = c.args.s.now in
     let from = c.args.from in
-    let l = c.loop-k in (
-      omega arith,
-      λ e m h k.
-          each_more (λ m. Follows (get_or s m 0) (get_or s (m + 1) 0) (get_or s (m + 2) 0) (get_or s (m + 3) 0)) from (from + l.k) l.all
-          c.wrong-all.result l.invariant.1 c.wrong-all.ensures e m h (omega arith),
-    )
+    let l = c.loop-k in
+    λ e m h k.
+    each_more (λ m. Follows (get_or s m 0) (get_or s (m + 1) 0) (get_or s (m + 2) 0) (get_or s (m + 3) 0)) from (from + l.k) l.all
+    c.wrong-all.result l.invariant c.wrong-all.ensures e m h (omega arith)

@@ -1,10 +1,7 @@
 -- If the number is 0, the bytes passed stand right.
-use Rattle.std.proofs.Common.{◌≡◌, ◌+◌, ◌-◌, ◌≤◌}
+use Rattle.std.proofs.Common.{◌≡◌, ◌+◌}
 use Rattle.utf8_check.specs.Following.{Right}
 use Rattle.utf8_check.proofs.blocks.wrong_in.Given as goal
 
 abbrev pub invariant-loop-k : goal.invariant-loop-k
-invariant-loop-k l = (l.k ≤ 64) × (l.all ≡ 0 → Right l.s l.from (l.from + l.k))
-
-abbrev pub decreases-loop-k : goal.decreases-loop-k
-decreases-loop-k l = 64 - l.k
+invariant-loop-k l = l.all ≡ 0 → Right l.s l.from (l.from + l.k)
