@@ -15,8 +15,7 @@ ghost use Rattle.lex_token.specs.Steps.{Faults};
 use lex_classes::Table;
 use utf8_chars::Char;
 use wat::{
-    Family, Fault, Hidden, LexError, Lexeme, Parsed, Refusal, Refused, RunEnd, Settings, Token,
-    TokenKind,
+    Family, Fault, Hidden, LexError, Lexeme, Parsed, Refusal, Refused, Settings, Token, TokenKind,
 };
 
 // One token at a position.
@@ -160,8 +159,8 @@ fn run_fault(s: &[u8], at: usize, settings: Settings, t: &Table) -> Fault
     ensures { Faults at (model.lex_by settings Family.Run (drop at s.now)) result }
 {
     match lex_token::parse_run(s, at, settings, t) {
-        RunEnd::Fails(fault) => fault,
-        RunEnd::Stops(_) => no_error(at),
+        Err(fault) => fault,
+        Ok(_) => no_error(at),
     }
 }
 

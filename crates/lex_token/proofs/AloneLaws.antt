@@ -7,9 +7,9 @@ use mathlib.Core.List.{List, [], ◌∷◌, ◌++◌, append-nil}
 use native.Mathlib.Omega.{arith}
 use lib.ListN.{length, get_or, take, drop, drop_of_length-le}
 use lib.Seq.{slice, take-length, drop-cons}
+use Rattle.std.specs.Prelude.{Ok}
 use Rattle.wat.specs.declared.TokenKind.{TokenKind}
 use Rattle.wat.specs.declared.TokenKind.TheVariants as kind
-use Rattle.wat.specs.declared.RunEnd.TheVariants.{Stops as stops}
 use Rattle.wat.specs.declared.Settings.{Settings}
 use Rattle.wat.specs.Settings.{lenient}
 use Rattle.wat.specs.Bytes.{byte, between, Each}
@@ -96,7 +96,7 @@ module _ {w : List ℕ} (each : Each raw true w) where
   string : (σ : Settings) → Str σ text w
   string σ = Str.quoted (raw_elems σ each)
 
-  string_stops : (σ : Settings) → walked σ text ≡ stops (length text)
+  string_stops : (σ : Settings) → walked σ text ≡ Ok (length text)
   string_stops σ =
       let r : Run σ text = rw (append-nil text) at (Run.string (string σ) Run.none) in
       rw (append-nil text) at (run_stops (suc (length text)) r ended (omega arith))

@@ -3,7 +3,7 @@ use Prim.Native.Nat.{ℕ, zero, suc, ◌+◌, ◌-◌, ◌<◌}
 use mathlib.Core.Path.{◌≡◌, refl, sym, ap, ◌∙◌, subst}
 use mathlib.Core.Bool.{Bool, true, false}
 use mathlib.Core.List.{List, [], ◌∷◌, ◌++◌, append-nil, append_assoc}
-use Rattle.std.specs.Prelude.{Some, None}
+use Rattle.std.specs.Prelude.{Some, None, Result, Ok, Err}
 use native.Mathlib.Omega.{arith}
 use native.Mathlib.Nat.{add-zero}
 use lib.ListN.{length, get_or, take, drop}
@@ -19,8 +19,6 @@ use Rattle.wat.specs.Utf8.{WellFormed}
 use Rattle.wat.specs.Chars.{idchar}
 use Rattle.wat.specs.Tokens.{Run}
 use Rattle.wat.specs.NumberModel.{classify}
-use Rattle.wat.specs.declared.RunEnd.{RunEnd}
-use Rattle.wat.specs.declared.RunEnd.TheVariants.{Stops as stops, Fails as fails}
 use Rattle.wat.specs.RunModel.{on, walk}
 use Rattle.wat.specs.declared.Family.TheVariants.{Run as run}
 use Rattle.wat.specs.LexModel.{family, word_kind, kind_of, run_by, lex_by, next}
@@ -44,11 +42,11 @@ use Rattle.lex_token.proofs.WalkLaws.{stops_of, fails_of}
 module _ (σ : Settings) (s : List ℕ) (at : ℕ) where
   pub step_stops :
       {n end : ℕ} {k : TokenKind}
-      → walked σ (drop at s) ≡ stops n → kind_of (take n (drop at s)) ≡ k → end ≡ at + n
+      → walked σ (drop at s) ≡ Ok n → kind_of (take n (drop at s)) ≡ k → end ≡ at + n
       → Some (record { kind = k; end = end }) ≡ step_of at (lex_by σ run (drop at s))
   step_stops {n} e q l = step_token at (ap (run_by (drop at s)) e ∙ ap (λ (k : TokenKind). answer.Token k n) q) l
 
-  pub step_fails : {f : Fault} → walked σ (drop at s) ≡ fails f → None ≡ step_of at (lex_by σ run (drop at s))
+  pub step_fails : {f : Fault} → walked σ (drop at s) ≡ Err f → None ≡ step_of at (lex_by σ run (drop at s))
   step_fails e = step_fault at (ap (run_by (drop at s)) e)
 
 -- ---- idchars alone
@@ -58,11 +56,11 @@ each_head (Each.next e r) = e
 
 module _ (σ : Settings) (s : List ℕ) (at i : ℕ) (c : Scanned idchar true s at i) (g : WellFormed (drop at s))
     (q : next (byte "\"") (drop i s) ≡ false) where
-  word_stops : walked σ (drop at s) ≡ stops (i - at)
+  word_stops : walked σ (drop at s) ≡ Ok (i - at)
   word_stops =
       ran_walk (ran_idchars c {σ = σ} g)
       ∙ ap (on (i - at)) (run_stops (suc (length (drop i s))) Run.none (idchars_stop c q) (omega arith))
-      ∙ ap stops (add-zero (i - at))
+      ∙ ap Ok (add-zero (i - at))
 
   pub word_step :
       {k : TokenKind} → at < i → k ≡ word_kind (classify (slice at i s)) (get_or s at 0)
@@ -90,14 +88,14 @@ word_some s at i c g q h f =
 
 pub word_fails :
     (σ : Settings) (s : List ℕ) (at i : ℕ) {f : Fault}
-    → Scanned idchar true s at i → WellFormed (drop at s) → walked σ (drop i s) ≡ fails f
+    → Scanned idchar true s at i → WellFormed (drop at s) → walked σ (drop i s) ≡ Err f
     → None ≡ step_of at (lex_by σ run (drop at s))
 word_fails σ s at i c g e = step_fails σ s at (ran_walk (ran_idchars c {σ = σ} g) ∙ ap (on (i - at)) e)
 
 -- ---- idchars, a string and what follows
 
 -- a run that is not empty has bytes
-rest_some : (σ : Settings) (n : ℕ) (t : List ℕ) → walked σ t ≡ stops n → 0 < n → take n t ≡ [] → ⊥
+rest_some : (σ : Settings) (n : ℕ) (t : List ℕ) → walked σ t ≡ Ok n → 0 < n → take n t ≡ [] → ⊥
 unfolding walk
 rest_some σ n [] e h z = let y : 0 ≡ n = cc in omega arith
 rest_some σ zero (x ∷ t) e h z = omega arith
@@ -108,7 +106,7 @@ module _ (σ : Settings) (s : List ℕ) (at i j : ℕ) (c : Scanned idchar true 
   ran : Ran σ s at j
   ran = ran_more (ran_idchars c g) d.ran
 
-  pub string_fails : {f : Fault} → walked σ (drop j s) ≡ fails f → None ≡ step_of at (lex_by σ run (drop at s))
+  pub string_fails : {f : Fault} → walked σ (drop j s) ≡ Err f → None ≡ step_of at (lex_by σ run (drop at s))
   string_fails e = step_fails σ s at (ran_walk ran ∙ ap (on (j - at)) e)
 
   -- the run's bytes
@@ -121,8 +119,8 @@ module _ (σ : Settings) (s : List ℕ) (at i j : ℕ) (c : Scanned idchar true 
       (slice_join s at i c.within (omega (arith, c.end)) j d.ran.onward d.ran.within)
       ∙ append_assoc (slice at i s) (slice i j s) (take n (drop j s))
 
-  module _ (n : ℕ) (e : walked σ (drop j s) ≡ stops n) where
-    string_stops : walked σ (drop at s) ≡ stops (j - at + n)
+  module _ (n : ℕ) (e : walked σ (drop j s) ≡ Ok n) where
+    string_stops : walked σ (drop at s) ≡ Ok (j - at + n)
     string_stops = ran_walk ran ∙ ap (on (j - at)) e
 
     pub string_step :
@@ -163,17 +161,17 @@ module _ (σ : Settings) (s : List ℕ) (at i : ℕ) (b : Bool) (c : Scanned idc
       rest_formed = here.ran.formed
 
       -- where the run behind the string ends as z
-      module _ (z : RunEnd) (w : z ≡ on j (walked σ (drop j s))) where
-        pub rest_bad : (f : Fault) → z ≡ fails f → None ≡ step_of at (lex_by σ run (drop at s))
+      module _ (z : Result ℕ Fault) (w : z ≡ on j (walked σ (drop j s))) where
+        pub rest_bad : (f : Fault) → z ≡ Err f → None ≡ step_of at (lex_by σ run (drop at s))
         rest_bad f y = string_fails σ s at i j c g here (fails_of j (walked σ (drop j s)) (sym w ∙ y)).1
 
-        pub rest_none : (k : ℕ) (m : TokenKind) → z ≡ stops k → k ≡ j → m ≡ quoted_by (slice at i s)
+        pub rest_none : (k : ℕ) (m : TokenKind) → z ≡ Ok k → k ≡ j → m ≡ quoted_by (slice at i s)
             → Some (record { kind = m; end = j }) ≡ step_of at (lex_by σ run (drop at s))
         rest_none k m y e l =
             let p = stops_of j (walked σ (drop j s)) (sym w ∙ y) in
             string_step σ s at i j c g here p.0 p.1 (omega (arith, p.2)) l
 
-        pub rest_more : (k : ℕ) → z ≡ stops k → (k ≡ j → ⊥)
+        pub rest_more : (k : ℕ) → z ≡ Ok k → (k ≡ j → ⊥)
             → Some (record { kind = kind.Reserved; end = k }) ≡ step_of at (lex_by σ run (drop at s))
         rest_more k y e =
             let p = stops_of j (walked σ (drop j s)) (sym w ∙ y) in

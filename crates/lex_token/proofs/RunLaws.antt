@@ -7,6 +7,7 @@ use native.Mathlib.Omega.{arith}
 use lib.ListN.{length, get_or, take, drop, length-append, length-drop}
 use lib.Seq.{slice, length-slice, slice_empty, drop-cons, drop-drop, get_or-drop}
 use borrow.Author.Tests.{eqb-true, eqb-false}
+use Rattle.std.specs.Prelude.{Result, Ok, Err}
 use Rattle.wat.specs.declared.Fault.{Fault}
 use Rattle.wat.specs.Faults.{shift}
 use Rattle.wat.specs.Bytes.{byte, Each}
@@ -15,8 +16,6 @@ use Rattle.wat.specs.Utf8.{WellFormed}
 use Rattle.wat.specs.Chars.{idchar}
 use Rattle.wat.specs.Strings.{Str}
 use Rattle.wat.specs.Tokens.{Run}
-use Rattle.wat.specs.declared.RunEnd.{RunEnd}
-use Rattle.wat.specs.declared.RunEnd.TheVariants.{Stops as stops, Fails as fails}
 use Rattle.wat.specs.RunModel.{failed, on, walk}
 use Rattle.wat.specs.LexModel.{count, next}
 use Rattle.wat.proofs.Scalars.{after_ascii}
@@ -31,7 +30,7 @@ use Rattle.lex_strings.proofs.DefinitionLaws.{ends_str, ends_rest}
 use Rattle.lex_token.proofs.SliceLaws.{slice_split, slice_take, slice_join}
 
 -- the walk of all that is left
-abbrev pub walked : Settings → List ℕ → RunEnd
+abbrev pub walked : Settings → List ℕ → Result ℕ Fault
 walked σ t = walk σ (suc (length t)) t
 
 -- ---- runs one after the other
@@ -55,12 +54,12 @@ run_joined {σ} {w} t r g = go (walks (suc (length t)) t (omega arith) g)
     enough : (v u : List ℕ) → t ≡ v ++ u → length (w ++ v) < fuel
     enough v u q = omega (arith, ap length (more v u q), length-append (w ++ v) u)
 
-    go : {k : RunEnd} → Walks σ t k → walk σ fuel (w ++ t) ≡ on (length w) k
+    go : {k : Result ℕ Fault} → Walks σ t k → walk σ fuel (w ++ t) ≡ on (length w) k
     go (is_run {w = v} {n = n} u q x z m) =
-        ap (walk σ fuel) (more v u q) ∙ run_stops fuel (run_append r x) z (enough v u q) ∙ ap stops (omega (arith, length-append w v))
+        ap (walk σ fuel) (more v u q) ∙ run_stops fuel (run_append r x) z (enough v u q) ∙ ap Ok (omega (arith, length-append w v))
     go (is_bad {w = v} {s = s} {x = f} q x z i) =
         ap (walk σ fuel) (more v s q) ∙ run_fails fuel (run_append r x) z (enough v s q)
-        ∙ ap fails (ap (λ (n : ℕ). shift n f) (length-append w v) ∙ sym (shift_shift (length w) (length v) f)
+        ∙ ap Err (ap (λ (n : ℕ). shift n f) (length-append w v) ∙ sym (shift_shift (length w) (length v) f)
         ∙ ap (shift (length w)) (sym i))
 
 -- ---- a run in a text, from a place to a place
@@ -176,6 +175,6 @@ module _ (σ : Settings) (s : List ℕ) (at : ℕ) (q : drop at s ≡ byte "\"" 
         };
       }
 
-  pub string_failed : {f : Fault} → string σ (drop (at + 1) s) ≡ failed f → walked σ (drop at s) ≡ fails (shift 1 f)
+  pub string_failed : {f : Fault} → string σ (drop (at + 1) s) ≡ failed f → walked σ (drop at s) ≡ Err (shift 1 f)
   unfolding walk
   string_failed e = ap (walked σ) q ∙ rw (quote_no_idchar, walk) (rw e)

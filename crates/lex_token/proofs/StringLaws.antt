@@ -11,10 +11,8 @@ use Rattle.wat.proofs.Basics.{shift_shift}
 use Rattle.wat.specs.Bytes.{byte}
 use Rattle.wat.specs.declared.Settings.{Settings}
 use Rattle.wat.specs.Utf8.{WellFormed}
-use Rattle.wat.specs.declared.RunEnd.TheVariants.{Fails as fails}
 use Rattle.wat.specs.LexModel.{next}
 use Rattle.std.specs.Prelude.{Result, Ok, Err}
-use Rattle.wat.specs.declared.Fault.{Fault}
 use Rattle.lex_strings.specs.Parsing.{Ends, StringFails, Parsed}
 use Rattle.lex_token.proofs.RunLaws.{walked, quote_at, Quoted, string_closed, string_failed}
 
@@ -29,7 +27,7 @@ module _ (s : List ℕ) (at : ℕ) (n : next (byte "\"") (drop at s) ≡ true) w
         let c : Ends σ s (at + 1) end = subst (Parsed σ s (at + 1)) e p in
         string_closed σ s at q.1 g c
 
-    pub parsed_failed : {f : Fault} → r ≡ Err f → (x : Fault) × (walked σ (drop at s) ≡ fails x) × (f ≡ shift at x)
+    pub parsed_failed : {f : Fault} → r ≡ Err f → (x : Fault) × (walked σ (drop at s) ≡ Err x) × (f ≡ shift at x)
     parsed_failed {f} z =
         let q = quote_at s at n in
         let b : StringFails σ s (at + 1) f = subst (Parsed σ s (at + 1)) z p in

@@ -15,7 +15,7 @@ ghost use Rattle.lex_token.specs.Steps.{step_of, Stepped, Quick};
 pub use alone::token_alone;
 use codes::KindNumber;
 use lex_classes::Table;
-use wat::{Family, Hidden, RunEnd, Settings, TokenKind};
+use wat::{Family, Fault, Hidden, Settings, TokenKind};
 
 mod alone;
 mod word_kinds;
@@ -203,27 +203,25 @@ fn parse_reserved(s: &[u8], at: usize, settings: Settings, t: &Table) -> Option<
             end: i,
         });
     }
-    match lex_strings::parse_str(s, i + 1, settings, t) {
-        Err(_) => None,
-        Ok(j) => match parse_run(s, j, settings, t) {
-            RunEnd::Fails(_) => None,
-            RunEnd::Stops(k) => {
-                if k == j {
-                    return Some(Step {
-                        kind: word_kinds::quoted_kind(s, at, i),
-                        end: j,
-                    });
-                }
-                token(TokenKind::Reserved, k)
-            }
-        },
+    let Ok(j) = lex_strings::parse_str(s, i + 1, settings, t) else {
+        return None;
+    };
+    let Ok(k) = parse_run(s, j, settings, t) else {
+        return None;
+    };
+    if k == j {
+        return Some(Step {
+            kind: word_kinds::quoted_kind(s, at, i),
+            end: j,
+        });
     }
+    token(TokenKind::Reserved, k)
 }
 
-// The run of idchars and strings from `at` on.
+// Where the run of idchars and strings from `at` on stops, or the fault of a string in it.
 // https://webassembly.github.io/spec/core/text/values.html#text-string
 #[tactic(auto, using(crate::proofs::RunLaws::ran_none))]
-pub fn parse_run(s: &[u8], at: usize, settings: Settings, t: &Table) -> RunEnd
+pub fn parse_run(s: &[u8], at: usize, settings: Settings, t: &Table) -> Result<usize, Fault>
     requires at_in_bounds { at ≤ length s.now }
     requires well_formed { WellFormed (drop at s.now) }
     ensures { result ≡ run.on at
@@ -233,16 +231,9 @@ pub fn parse_run(s: &[u8], at: usize, settings: Settings, t: &Table) -> RunEnd
     loop {
         let k = lex_classes::idchars_end(s, i, t);
         if !is_at(s, k, b'"') {
-            return RunEnd::Stops(k);
+            return Ok(k);
         }
-        match lex_strings::parse_str(s, k + 1, settings, t) {
-            Ok(end) => {
-                i = end;
-            }
-            Err(fault) => {
-                return RunEnd::Fails(fault);
-            }
-        }
+        i = lex_strings::parse_str(s, k + 1, settings, t)?;
     }
 }
 

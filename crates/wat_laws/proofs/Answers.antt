@@ -8,6 +8,7 @@ use mathlib.Core.Bool.{true, false}
 use native.Mathlib.Omega.{arith}
 use lib.ListN.{length, take, drop, take-append-drop}
 use lib.Seq.{length-take-le, take-append_seam, take-take, take-nil}
+use Rattle.std.specs.Prelude.{Result, Ok, Err}
 use Rattle.wat.specs.declared.Fault.{Fault}
 use Rattle.wat.specs.Faults.{fault, shift}
 use Rattle.wat.specs.declared.TokenKind.{TokenKind}
@@ -23,8 +24,6 @@ use Rattle.wat.specs.StringFaults.{BadStr}
 use Rattle.wat.specs.Comments.{BlockComment}
 use Rattle.wat.specs.Tokens.{Run, Tok}
 use Rattle.wat.specs.Lexing.{Longest, Comment, Fails, Lexed}
-use Rattle.wat.specs.declared.RunEnd.{RunEnd}
-use Rattle.wat.specs.declared.RunEnd.TheVariants.{Stops as stops, Fails as fails}
 use Rattle.wat.specs.RunModel.{walk}
 use Rattle.wat.specs.declared.Family.{Family}
 use Rattle.wat.specs.declared.Family.TheVariants.{OpenParen as open_paren, Run as run, Other as other}
@@ -51,7 +50,7 @@ accepted_run : {σ : Settings} {k : TokenKind} {n : ℕ} (x : ℕ) (t : List ℕ
     → (w : List ℕ) × (u : List ℕ) × (x ∷ t ≡ w ++ u) × Run σ w × Stopped u × (n ≡ length w)
 accepted_run {σ} {k} {n} x t f g l nf = go (walks (suc (length (x ∷ t))) (x ∷ t) (omega arith) g)
   where
-    go : {y : RunEnd} → Walks σ (x ∷ t) y
+    go : {y : Result ℕ Fault} → Walks σ (x ∷ t) y
         → (w : List ℕ) × (u : List ℕ) × (x ∷ t ≡ w ++ u) × Run σ w × Stopped u × (n ≡ length w)
     go (is_run {w = w} u q r z m) = (w, u, q, r, z, (longest_one l (longest_run x t u q (run_lenient r) z f)).1)
     go (is_bad {w = w} {x = f} q r z i) =
@@ -70,7 +69,7 @@ lexed_looser {σ} {τ} {s} {k} {n} o g (Lexed.token l nf) = Lexed.token l (λ e 
         accepted_run x v (run_bad_head x v r b (h ∙ sym q)) (rw (sym q) at g) (rw (sym q) at l)
         (λ er f. nf er (subst (λ (z : List ℕ). Fails σ z er) q f)) in
         let f = suc (length a.0 + length w) in
-        let y : stops (length a.0) ≡ fails (shift (length w) er) =
+        let y : Ok (length a.0) ≡ Err (shift (length w) er) =
         sym (run_stops f (run_looser o a.3) a.4 (omega arith)) ∙ ap (walk τ f) (sym a.2 ∙ q ∙ sym h)
         ∙ run_fails f r b (omega arith) in
         let z : ◌≡◌ {A = ℕ} 0 1 = cc in omega arith
@@ -136,7 +135,7 @@ lexed_alone {σ} {s} {k} {n} g (Lexed.token l nf) = Lexed.token alone (λ e f. g
         let c : take n s ≡ a.0 =
         ap (take n) (sym q ∙ a.2) ∙ ap (λ (i : ℕ). take i (a.0 ++ a.1)) a.5 ∙ take-append_seam a.0 a.1 in
         let d : a.0 ++ [] ≡ w ++ t = append-nil a.0 ∙ sym c ∙ sym h in
-        let k : stops (length a.0) ≡ fails (shift (length w) er) =
+        let k : Ok (length a.0) ≡ Err (shift (length w) er) =
         sym (run_stops f a.3 ended (omega arith)) ∙ ap (walk σ f) d ∙ run_fails f r b (omega arith) in
         let z : ◌≡◌ {A = ℕ} 0 1 = cc in omega arith
       where

@@ -9,6 +9,7 @@ use native.Mathlib.Omega.{arith}
 use lib.ListN.{length, take, drop, length-append}
 use lib.Seq.{take-append_seam}
 use borrow.Author.Tests.{eqb-true}
+use Rattle.std.specs.Prelude.{Result, Ok, Err}
 use Rattle.wat.specs.declared.Fault.{Fault}
 use Rattle.wat.specs.Faults.{fault, shift}
 use Rattle.wat.specs.declared.TokenKind.TheVariants as kind
@@ -22,8 +23,6 @@ use Rattle.wat.specs.Comments.{LineComment, BlockComment}
 use Rattle.wat.specs.Tokens.{Proper, Tok}
 use Rattle.wat.specs.Lexing.{Longest, Comment, begins, Fails, Lexed}
 use Rattle.wat.specs.StringModel.{char, peek}
-use Rattle.wat.specs.declared.RunEnd.{RunEnd}
-use Rattle.wat.specs.declared.RunEnd.TheVariants.{Stops as stops, Fails as fails}
 use Rattle.wat.specs.RunModel.{walk}
 use Rattle.wat.specs.CommentModel.{fresh, ends}
 use Rattle.wat.specs.declared.Family.{Family}
@@ -158,7 +157,7 @@ lexed_semi σ t w = go (next 0x3B t) refl
 
 -- a run's faults are those of its strings
 run_faults : {σ : Settings} {s : List ℕ} {f : Fault} (y : ℕ) (v : List ℕ) (n : ℕ) → s ≡ y ∷ v → family y ≡ run
-    → walk σ (suc (length s)) s ≡ stops n → Fails σ s f → ⊥
+    → walk σ (suc (length s)) s ≡ Ok n → Fails σ s f → ⊥
 run_faults {σ} {s} y v n h r e f = go f refl
   where
     go : {s' : List ℕ} {f : Fault} → Fails σ s' f → s' ≡ s → ⊥
@@ -172,7 +171,7 @@ run_faults {σ} {s} y v n h r e f = go f refl
         (λ z. apart_family y semi run z (λ q. let y : ◌≡◌ {A = ℕ} 0 1 = cc in omega arith) r)
         (comment_head y w.0 c l.is w.1)
     go (Fails.string {w = w} {t = t} {f = g} x b) q =
-        let k : fails (shift (length w) g) ≡ stops n =
+        let k : Err (shift (length w) g) ≡ Ok n =
         sym (run_fails (suc (length s)) x b (omega (arith, ap length q, length-append w t))) ∙ ap (walk σ (suc (length s))) q
         ∙ e in
         let y : ◌≡◌ {A = ℕ} 0 1 = cc in omega arith
@@ -181,7 +180,7 @@ lexed_run : (σ : Settings) (x : ℕ) (t : List ℕ) → family x ≡ run → We
     → Lexed σ (x ∷ t) (lex_by σ run (x ∷ t))
 lexed_run σ x t f w = go (walk σ (suc (length (x ∷ t))) (x ∷ t)) refl (walks (suc (length (x ∷ t))) (x ∷ t) (omega arith) w)
   where
-    go : (k : RunEnd) → walk σ (suc (length (x ∷ t))) (x ∷ t) ≡ k → Walks σ (x ∷ t) k
+    go : (k : Result ℕ Fault) → walk σ (suc (length (x ∷ t))) (x ∷ t) ≡ k → Walks σ (x ∷ t) k
         → Lexed σ (x ∷ t) (run_by (x ∷ t) k)
     go k e (is_run {w = v} {n = n} u q r z m) =
         let l = longest_run x t u q (run_lenient r) z f in

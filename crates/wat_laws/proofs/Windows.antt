@@ -10,6 +10,7 @@ use lib.Dec.{eqb, ltb}
 use lib.ListN.{length, length-append}
 use lib.Seq.{take-append-le}
 use borrow.Author.Tests.{eqb-true}
+use Rattle.std.specs.Prelude.{Result, Ok, Err}
 use Rattle.wat.specs.declared.{TokenKind.TokenKind, Fault.Fault, LexError.LexError, Settings.Settings}
 use Rattle.wat.specs.Answers.{Answer}
 use Rattle.wat.specs.declared.TokenKind.TheVariants as kind
@@ -21,8 +22,6 @@ use Rattle.wat.specs.Chars.{space, newline}
 use Rattle.wat.specs.StringFaults.{NumberEnds, Bad, BadStr}
 use Rattle.wat.specs.Lexing.{Lexed}
 use Rattle.wat.specs.StringModel.{nothing, peek}
-use Rattle.wat.specs.declared.RunEnd.{RunEnd}
-use Rattle.wat.specs.declared.RunEnd.TheVariants.{Stops as stops, Fails as fails}
 use Rattle.wat.specs.RunModel.{walk}
 use Rattle.wat.specs.CommentModel.{fresh, ends}
 use Rattle.wat.specs.declared.Family.{Family}
@@ -91,17 +90,17 @@ run_window σ s r g h = go (walks (suc (length s)) s (omega arith) g) h
     fuel : ℕ
     fuel = suc (length (s ++ r))
 
-    go : {k : RunEnd} → Walks σ s k → DecidedAnswer s (run_by s k) → run_by (s ++ r) (walk σ fuel (s ++ r)) ≡ run_by s k
+    go : {k : Result ℕ Fault} → Walks σ s k → DecidedAnswer s (run_by s k) → run_by (s ++ r) (walk σ fuel (s ++ r)) ≡ run_by s k
     go (is_run {w = w} {n = n} u q x z m) h =
         let l : length s ≡ length w + length u = ap length q ∙ length-append w u in
-        let e : walk σ fuel (s ++ r) ≡ stops (length w) =
+        let e : walk σ fuel (s ++ r) ≡ Ok (length w) =
         ap (walk σ fuel) (ap (λ (y : List ℕ). y ++ r) q ∙ append_assoc w u r)
         ∙ run_stops fuel x (stopped_window r z (omega arith)) (omega (arith, length-append s r)) in
         rw (e, sym m, take-append-le n s r (omega arith))
     go (is_bad {w = w} {s = t} {x = f} q x z i) h =
         let l : length s ≡ length w + length t = ap length q ∙ length-append w t in
         let k : length w + f.after < length s = rw i at h.0 in
-        let e : walk σ fuel (s ++ r) ≡ fails (shift (length w) f) =
+        let e : walk σ fuel (s ++ r) ≡ Err (shift (length w) f) =
         ap (walk σ fuel) (ap (λ (y : List ℕ). y ++ r) q ∙ append_assoc w t r)
         ∙ run_fails fuel x (string_window r z (omega arith)) (omega (arith, length-append s r)) in
         rw (e, i)

@@ -11,15 +11,15 @@ parse_run-requires-clause-well_formed c = search (rules, rest_formed)
 pub returns-then-k-j : goal.returns-then-k-j
 returns-then-k-j c =
     rest_none _ _ _ _ _ c.idchars_end-i.ensures c.is_at.ensures c.requires.well_formed c.if-not-is_at.false _ c.in-Ok.ensures _
-    c.parse_run.ensures _ _ c.in-Stops.is c.if-k-j.true c.quoted_kind.ensures
+    c.parse_run.ensures _ _ c.in-Ok-parse_run.is c.if-k-j.true c.quoted_kind.ensures
 
-pub returns-in-Err : goal.returns-in-Err
-returns-in-Err c = search (rules, string_bad)
+pub returns-in_default : goal.returns-in_default
+returns-in_default c = search (rules, string_bad)
 
-pub returns-in-Fails : goal.returns-in-Fails
-returns-in-Fails c =
+pub returns-in_default-parse_run : goal.returns-in_default-parse_run
+returns-in_default-parse_run c =
     rest_bad _ _ _ _ _ c.idchars_end-i.ensures c.is_at.ensures c.requires.well_formed c.if-not-is_at.false _ c.in-Ok.ensures _
-    c.parse_run.ensures _ c.in-Fails.is
+    c.parse_run.ensures _ c.in_default-parse_run.is
 
-pub returns-else-k-j : goal.returns-else-k-j
-returns-else-k-j c = search (rules, rest_more)
+pub returns : goal.returns
+returns c = search (rules, rest_more)

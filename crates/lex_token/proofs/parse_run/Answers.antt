@@ -7,8 +7,8 @@ returns-then-not-is_at c = search (rules, run_ends)
 
 pub loop-settings-preserved : goal.loop-settings-preserved
 loop-settings-preserved c =
-    run_on _ _ _ c.loop-settings.i _ _ _ c.in-Ok.ensures c.idchars_end-k.ensures c.is_at.ensures c.if-not-is_at.false
+    run_on _ _ _ c.loop-settings.i _ _ _ c.in_ok-i.ensures c.idchars_end-k.ensures c.is_at.ensures c.if-not-is_at.false
     c.loop-settings.invariant
 
-pub returns-in-Err : goal.returns-in-Err
-returns-in-Err c = search (rules, run_breaks)
+pub returns-in_err-i : goal.returns-in_err-i
+returns-in_err-i c = search (rules, run_breaks)
