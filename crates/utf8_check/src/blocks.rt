@@ -141,6 +141,7 @@ fn start_before(s: &[u8], i: usize) -> usize
 
 // A place up to which all is ASCII. Where fewer than 16 bytes are left, the last 16 of the text are looked at, some of
 // them again.
+#[tactic(auto, using(crate::proofs::ResumeLaws::from_start))]
 fn ascii_to(s: &[u8]) -> usize
     ensures { Resumes s.now result }
 {
@@ -162,6 +163,7 @@ fn ascii_to(s: &[u8]) -> usize
 }
 
 // A place from which on the check by characters gives the answer for the whole text.
+#[tactic(auto, using(crate::proofs::ResumeLaws::from_start))]
 pub fn pass(s: &[u8]) -> usize
     ensures { Resumes s.now result }
 {

@@ -1,13 +1,7 @@
 -- Past ASCII bytes the check may go on.
 use Rattle.std.proofs.Common.{◌+◌, ◌-◌, length, refl, arith}
-use Rattle.utf8_check.proofs.ResumeLaws.{from_start, past_low}
+use Rattle.utf8_check.proofs.ResumeLaws.{past_low}
 use Rattle.utf8_check.proofs.blocks.ascii_to.Goals as goal
-
-pub returns-then-s-lt16 : goal.returns-then-s-lt16
-returns-then-s-lt16 c = from_start _
-
-pub loop-i-init : goal.loop-i-init
-loop-i-init c = from_start _
 
 pub loop-i-preserved : goal.loop-i-preserved
 loop-i-preserved c =

@@ -1,11 +1,7 @@
 -- The first three bytes stand right, and then the blocks; of a short text, ASCII.
 use Rattle.std.proofs.Common.{arith}
 use Rattle.utf8_check.proofs.FollowingLaws.{begins_by_lem}
-use Rattle.utf8_check.proofs.ResumeLaws.{from_start}
 use Rattle.utf8_check.proofs.blocks.pass.Goals as goal
-
-pub returns-then-wrong-ne0 : goal.returns-then-wrong-ne0
-returns-then-wrong-ne0 c = from_start _
 
 pub start_before-requires : goal.start_before-requires
 start_before-requires c =
