@@ -49,17 +49,16 @@ pub fn parse_str(s: &[u8], at: usize, settings: Settings, t: &Table) -> Result<u
 }
 
 // Whether the bytes from one place to another have a `\`. A string with none stands for the bytes between its quotes.
+// `s[from..to].contains(..)` says it by the byte's `PartialEq`, which proofs do not see to be the definition's `eqb`.
 #[tactic(auto, using(crate::proofs::RawLaws::escapes_sought))]
 pub fn has_escape(s: &[u8], from: usize, to: usize) -> bool
     requires { (from ≤ to) × (to ≤ length s.now) }
     ensures { result ≡ has (byte "\\") (slice from to s.now) }
 {
-    let mut i = from;
-    while i < to {
+    for i in from..to {
         if s[i] == b'\\' {
             return true;
         }
-        i += 1;
     }
     false
 }
