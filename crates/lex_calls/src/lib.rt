@@ -9,10 +9,11 @@ ghost use Rattle.wat.specs.Utf8.{WellFormed};
 ghost use Rattle.wat.specs.StringModel.{peek};
 ghost use Rattle.wat.specs.LexModel as model;
 ghost use Rattle.wat.specs.Lexing.{Lexed};
-ghost use Rattle.wat.specs.Calls.{Text, Stands, Parses, Annotates};
+ghost use Rattle.wat.specs.Calls.{Text, Parses, Annotates};
 ghost use Rattle.lex_token.specs.Steps.{Faults};
 
 use lex_classes::Table;
+use lex_entry::Rest;
 use utf8_chars::Char;
 use wat::{
     Family, Fault, Hidden, LexError, Lexeme, Parsed, Refusal, Refused, Settings, Token, TokenKind,
@@ -23,21 +24,22 @@ use wat::{
 pub fn parse(text: &[u8], settings: Settings, pos: usize) -> Parsed
     ensures { Parses settings text.now pos result }
 {
-    match lex_entry::check(text, pos) {
+    match lex_entry::enter(text, pos) {
         Err(Refused { refusal, place }) => Parsed {
             found: Err(Refused { refusal, place }),
             position: pos,
         },
-        Ok(()) => parse_at(text, settings, pos),
+        Ok(rest) => parse_at(&rest, settings),
     }
 }
 
-// The answer at a position that stands, counted from the text's start.
+// The answer where the position stands, counted from the text's start.
 #[tactic(auto, using(crate::proofs::CallLaws::parses))]
-fn parse_at(text: &[u8], settings: Settings, pos: usize) -> Parsed
-    requires { Stands text.now pos }
-    ensures { Parses settings text.now pos result }
+fn parse_at(rest: &Rest, settings: Settings) -> Parsed
+    ensures { Parses settings rest.now.text rest.now.at result }
 {
+    let text = rest.text();
+    let pos = rest.at();
     let t = Table::new();
     match next(text, pos, settings, &t) {
         Ok(None) => Parsed {

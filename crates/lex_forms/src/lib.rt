@@ -10,6 +10,7 @@ ghost use Rattle.wat_forms.specs.Forms.{Folds};
 ghost use Rattle.lex_forms.specs.Inner.{InnerFolds};
 
 use lex_classes::Table;
+use lex_entry::Rest;
 use wat::{Lexeme, Refusal, Refused, Settings, TokenKind};
 use wat_forms::{FoldError, LEVELS};
 
@@ -18,16 +19,17 @@ use wat_forms::{FoldError, LEVELS};
 pub fn fold(text: &[u8], settings: Settings, pos: usize) -> Result<usize, FoldError>
     ensures { Folds settings text.now pos result }
 {
-    lex_entry::check(text, pos)?;
-    fold_at(text, settings, pos)
+    let rest = lex_entry::enter(text, pos)?;
+    fold_at(&rest, settings)
 }
 
-// The same at a position that stands.
+// The same where the position stands.
 #[tactic(auto, using(crate::proofs::FormSteps::folding))]
-fn fold_at(text: &[u8], settings: Settings, pos: usize) -> Result<usize, FoldError>
-    requires { Stands text.now pos }
-    ensures { Folds settings text.now pos result }
+fn fold_at(rest: &Rest, settings: Settings) -> Result<usize, FoldError>
+    ensures { Folds settings rest.now.text rest.now.at result }
 {
+    let text = rest.text();
+    let pos = rest.at();
     let t = Table::new();
     match lex_calls::next(text, pos, settings, &t) {
         Ok(Some(Lexeme { kind, len })) => match kind {
@@ -51,7 +53,7 @@ fn no_form() -> Result<usize, FoldError>
 
 // The position past the form in which a place stands, if nothing refuses it before. In it `left` levels more may be
 // opened. Each form in it is passed by a call of the function itself, and reading goes on behind it, so that no token is
-// lexed twice.
+// lexed twice. It takes a place that was reached, and no `Rest`: `enter` alone makes one, and checks the whole text.
 #[tactic(auto, using(crate::proofs::FormSteps::inners))]
 fn inner(
     text: &[u8],

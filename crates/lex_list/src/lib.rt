@@ -5,11 +5,11 @@
 ghost use Rattle.std.specs.Prelude.{◌+◌, ◌≤◌, ◌<◌, ◌++◌, length, drop};
 ghost use Rattle.wat.specs.Cases.{kind_number};
 ghost use Rattle.wat.specs.Division.{little, record_size, Listing};
-ghost use Rattle.wat.specs.Calls.{Stands};
 ghost use Rattle.buffers.specs.Writing.{Put};
 
 use codes::KindNumber;
 use lex_classes::Table;
+use lex_entry::Rest;
 use wat::{Listed, Refusal, Refused, Settings, Stop, Token};
 
 // A token's record at a place of the list: its length in four bytes and its kind in two, the least first.
@@ -24,16 +24,11 @@ fn put_record(list: &mut [u8], to: usize, len: u32, kind: KindNumber)
 
 // The listing from a place at which a text may be read. The text is checked no more: one check serves for all tokens.
 #[tactic(auto, using(crate::proofs::GoesLaws::goings))]
-fn list_from(
-    text: &[u8],
-    settings: Settings,
-    start: usize,
-    budget: usize,
-    list: &mut [u8],
-) -> Listed
-    requires { Stands text.now start }
-    ensures { Listing settings text.now start budget list.old result list.new }
+fn list_from(rest: &Rest, settings: Settings, budget: usize, list: &mut [u8]) -> Listed
+    ensures { Listing settings rest.now.text rest.now.at budget list.old result list.new }
 {
+    let text = rest.text();
+    let start = rest.at();
     let t = Table::new();
     let mut at = start;
     let mut n: usize = 0;
@@ -82,12 +77,12 @@ fn list_from(
 pub fn list(text: &[u8], settings: Settings, start: usize, budget: usize, list: &mut [u8]) -> Listed
     ensures { Listing settings text.now start budget list.old result list.new }
 {
-    match lex_entry::check(text, start) {
+    match lex_entry::enter(text, start) {
         Err(Refused { refusal, place }) => Listed {
             stop: Err(Refused { refusal, place }),
             count: 0,
             position: start,
         },
-        Ok(()) => list_from(text, settings, start, budget, list),
+        Ok(rest) => list_from(&rest, settings, budget, list),
     }
 }

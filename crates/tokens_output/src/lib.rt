@@ -2,14 +2,14 @@
 
 #![tactic(auto)]
 
-ghost use Rattle.std.specs.Prelude.{◌≤◌, length, take};
-ghost use Rattle.wat.specs.Calls.{Stands};
+ghost use Rattle.std.specs.Prelude.{◌≡◌, ◌≤◌, length, take};
 ghost use Rattle.io.specs.Counts.{IsPrefixLen};
 ghost use Rattle.tokens_lines.specs.Lines.{header};
 ghost use Rattle.tokens_output.specs.Front.{Front, room};
 ghost use Rattle.tokens_output.specs.Output.{Output, longest};
 
 use lex_classes::Table;
+use lex_entry::Rest;
 use wat::{Lexeme, Refusal, Refused, Settings};
 
 // The longest input.
@@ -20,14 +20,17 @@ pub const ROOM: usize = tokens_lines::LONGEST_LINE * (LONGEST + 2);
 
 // The lines of a text that can be read, behind the header, and the last line: one walk over its tokens.
 #[tactic(auto, using(crate::proofs::OutputLaws::growing))]
-fn render_from(text: &[u8], out: &mut [u8], from: usize) -> usize
-    requires { Stands text.now 0 × (length text.now ≤ longest)
-        × (room ≤ length out.old) × Front out.old header from }
-    ensures { Output text.now (take result out.new) × IsPrefixLen result out.new }
+fn render_from(rest: &Rest, out: &mut [u8], from: usize) -> usize
+    requires start { rest.now.at ≡ 0 }
+    requires small { length rest.now.text ≤ longest }
+    requires room { room ≤ length out.old }
+    requires front { Front out.old header from }
+    ensures { Output rest.now.text (take result out.new) × IsPrefixLen result out.new }
 {
+    let text = rest.text();
+    let mut at = rest.at();
     let t = Table::new();
     let mut end = from;
-    let mut at: usize = 0;
     let mut count: usize = 0;
     // a `loop`, since each turn goes on behind the token that it found, and three things may be next
     loop {
@@ -57,8 +60,8 @@ pub fn render(text: &[u8], out: &mut [u8; ROOM]) -> usize
     if text.len() > LONGEST {
         return buffers::append(out, end, b"too-long\n");
     }
-    match lex_entry::check(text, 0) {
+    match lex_entry::enter(text, 0) {
         Err(Refused { refusal, place }) => tokens_lines::put_error(out, end, refusal, place),
-        Ok(()) => render_from(text, out, end),
+        Ok(rest) => render_from(&rest, out, end),
     }
 }
