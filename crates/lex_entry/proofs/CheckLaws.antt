@@ -18,7 +18,7 @@ module _ {text : List ℕ} {pos : ℕ} where
   annotates (RefusesText.too_long h) = calls.Annotates.too_long h
   annotates (RefusesText.not_utf8 h b) = calls.Annotates.not_utf8 h b
 
--- what `check_text` and `check` answer
+-- what `check_text` and `enter` answer
 pub ruleset checked = (RefusesText.too_long, RefusesText.not_utf8)
 
 pub ruleset placed = (refuses, calls.Rejected.past_end, calls.Rejected.inside)

@@ -45,19 +45,11 @@ impl<'a> Rest<'a> {
     }
 }
 
-// A text and a position, where none of 1 to 4 refuses them.
+// A text and a position, where none of 1 to 4 refuses them: as `check_text`, and then the position is past the end, or
+// inside a character.
+#[tactic(auto, using(crate::proofs::CheckLaws::placed))]
 pub fn enter<'a>(text: &'a [u8], pos: usize) -> Result<Rest<'a>, Refused>
     ensures ok { IfOk result (λ r. r ≡ record { text = text.now; at = pos }) }
-    ensures err { IfErr result (Refuses text.now pos) }
-{
-    check(text, pos)?;
-    Ok(Rest { text, at: pos })
-}
-
-// 1 to 4: as `check_text`, and then the position is past the end, or inside a character.
-#[tactic(auto, using(crate::proofs::CheckLaws::placed))]
-pub fn check(text: &[u8], pos: usize) -> Result<(), Refused>
-    ensures ok { OnOk result (Stands text.now pos) }
     ensures err { IfErr result (Refuses text.now pos) }
 {
     check_text(text, pos)?;
@@ -73,7 +65,7 @@ pub fn check(text: &[u8], pos: usize) -> Result<(), Refused>
             place: pos,
         });
     }
-    Ok(())
+    Ok(Rest { text, at: pos })
 }
 
 // 1 and 2, which do not depend on the position: the text is too long, or no UTF-8.
