@@ -2,7 +2,7 @@
 use Rattle.std.proofs.Common.{◌≡◌, ℕ, ◌+◌, ◌-◌, ◌<◌, ◌≤◌, List, ⊎_elim, arith}
 use lib.Bits.{bit_or, or_add_and, and_le_l, and_le_r}
 use Rattle.wat.proofs.Basics.{below}
-use Rattle.utf8_check.specs.Following.{Placed, Follows, Low, Right, Begins}
+use Rattle.utf8_check.specs.Following.{Placed, Follows, Right, Begins}
 
 -- numbers that are 0 where nothing is wrong
 

@@ -148,6 +148,7 @@ fn ascii_to(s: &[u8]) -> usize
     if s.len() < 16 {
         return 0;
     }
+    // `chunks_exact(16)` would need this counter all the same
     let mut i: usize = 0;
     while 16 <= s.len() - i {
         if high_in(s, i, 16) != 0 {
