@@ -9,8 +9,8 @@ ghost use Rattle.lex_entry.specs.Checks.{Refuses, RefusesText};
 use std::marker::Model;
 use wat::{Refusal, Refused, Token};
 
-// A text that is checked, and a position that stands in it. What reads on from there takes this in place of the two, and
-// asks no more.
+// A text that is checked, and a position that stands in it. What reads on from there takes this in place of the two,
+// and asks no more.
 #[derive(Drop)]
 pub struct Rest<'a> {
     text: &'a [u8],

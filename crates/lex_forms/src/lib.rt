@@ -52,8 +52,9 @@ fn no_form() -> Result<usize, FoldError>
 }
 
 // The position past the form in which a place stands, if nothing refuses it before. In it `left` levels more may be
-// opened. Each form in it is passed by a call of the function itself, and reading goes on behind it, so that no token is
-// lexed twice. It takes a place that was reached, and no `Rest`: `enter` alone makes one, and checks the whole text.
+// opened. Each form in it is passed by a call of the function itself, and reading goes on behind it, so that no
+// token is lexed twice. It takes a place that was reached, and no `Rest`: `enter` alone makes one, and checks the whole
+// text.
 #[tactic(auto, using(crate::proofs::FormSteps::inners))]
 fn inner(
     text: &[u8],
