@@ -1,7 +1,7 @@
 // The check by blocks of 64 bytes: each byte is held against the three before it, by a rule without branches, which
 // LLVM turns into vector code. It passes over what is right, ASCII or not; of a text too short for that, over ASCII.
-// What is left, and what is wrong, is for the check by characters. `misplaced` to `wrong` are sums without a branch, 0
-// where all is right: that is what becomes vector code.
+// What is left, and what is wrong, is for the check by characters. What `misplaced` to `wrong` answer are numbers, joined
+// by `|` with no branch on the bytes: no bool, Option or loop left early, so that the vector code stays.
 
 ghost use Rattle.std.specs.Prelude.{◌≡◌, ◌+◌, ◌-◌, ◌≤◌, length, slice_index};
 ghost use Rattle.utf8_check.specs.Following.{Placed, Low, Follows, Right, Begins, Resumes};
