@@ -3,12 +3,11 @@ use Prim.Native.Nat.{ℕ, ◌+◌, ◌≤◌, ◌<◌}
 use mathlib.Core.Path.{◌≡◌, sym, ap, ◌∙◌}
 use mathlib.Core.List.{List, [], ◌∷◌, ◌++◌, append_assoc}
 use native.Mathlib.Omega.{arith}
-use native.Mathlib.Numerals.{add-one}
-use lib.ListN.{length, get_or, take, drop, set, length-append, length-drop}
-use lib.Seq.{length-take-le, take_at, drop_at, drop-drop, sets, sets-eq, paste, paste-zero, paste-suc, get_or-drop}
+use lib.ListN.{length, take, drop, set, length-append, length-drop}
+use lib.Seq.{length-take-le, take_at, drop_at, drop-drop, sets, sets-eq, paste-zero}
 use Rattle.buffers.specs.Writing.{Put}
 
--- nothing, a run of stores, and the copy of a beginning
+-- nothing, and a run of stores
 
 pub put_none : (d : List ℕ) (to : ℕ) → to ≤ length d → Put d d to []
 put_none d to h = record { fits = omega arith; is = paste-zero d to [] }
@@ -18,20 +17,6 @@ put_stores d to v h = record { fits = h; is = sets-eq v d to h }
 
 pub put_one : (d : List ℕ) (to b : ℕ) → to < length d → Put d (set d to b) to (b ∷ [])
 put_one d to b h = put_stores d to (b ∷ []) (omega arith)
-
-pub put_copy : (d e : List ℕ) (to : ℕ) (w : List ℕ) (n : ℕ) → to + n ≤ length d → n ≤ length w
-    → e ≡ paste d to w n → Put d e to (take n w)
-put_copy d e to w n h k q =
-    let l = length-take-le n w k in
-    record { fits = omega arith; is = rw l q }
-
--- a turn of the loop that copies
-pub copy_more :
-    (d e : List ℕ) (to : ℕ) (s : List ℕ) (from k : ℕ) → to + k < length d → from + k < length s
-    → e ≡ paste d to (drop from s) k
-    → set e (to + k) (get_or s (from + k) 0) ≡ paste d to (drop from s) (k + 1)
-copy_more d e to s from k h l q =
-    rw (q, ← get_or-drop from s k 0, add-one k) (paste-suc d to (drop from s) k 0 h (omega (arith, length-drop from s)))
 
 module _ (d e : List ℕ) (to : ℕ) (v : List ℕ) (p : Put d e to v) where
   head_length : length (take to d ++ v) ≡ to + length v

@@ -23,6 +23,7 @@ pub fn len_utf8(v: u32) -> usize
     4
 }
 
+// A number below 256 as a byte: a cast, as the contract rules out all that `u8::try_from` would refuse.
 fn low(x: u32) -> u8
     requires { x < 256 }
     ensures { result ≡ x }
@@ -66,16 +67,11 @@ pub fn encode_utf8(dst: &mut [u8], to: usize, v: u32) -> usize
 }
 
 // Writes n bytes of one slice, from a place on, at a place of another.
-#[tactic(auto, using(crate::proofs::PutLaws::copy_more))]
 pub fn copy(dst: &mut [u8], to: usize, src: &[u8], from: usize, n: usize)
     requires { (to + n ≤ length dst.old) × (from + n ≤ length src.now) }
     ensures { Put dst.old dst.new to (take n (drop from src.now)) }
 {
-    let mut k: usize = 0;
-    while k < n {
-        dst[to + k] = src[from + k];
-        k += 1;
-    }
+    dst[to..to + n].copy_from_slice(&src[from..from + n]);
 }
 
 // Writes the bytes of a text at a place of a buffer; returns where they end.
