@@ -3,8 +3,9 @@ use Prim.Native.Nat.{ℕ, ◌+◌, ◌≤◌, ◌<◌}
 use mathlib.Core.Path.{◌≡◌, sym, ap, ◌∙◌}
 use mathlib.Core.List.{List, [], ◌∷◌, ◌++◌, append_assoc}
 use native.Mathlib.Omega.{arith}
-use lib.ListN.{length, take, drop, set, length-append, length-drop}
-use lib.Seq.{length-take-le, take_at, drop_at, drop-drop, sets, sets-eq, paste-zero}
+use native.Mathlib.Numerals.{add-one}
+use lib.ListN.{length, get_or, take, drop, set, length-append, length-drop}
+use lib.Seq.{length-take-le, take_at, drop_at, drop-drop, sets, sets-eq, paste, paste-zero, paste-suc, get_or-drop}
 use Rattle.buffers.specs.Writing.{Put}
 
 -- nothing, and a run of stores
@@ -17,6 +18,14 @@ put_stores d to v h = record { fits = h; is = sets-eq v d to h }
 
 pub put_one : (d : List ℕ) (to b : ℕ) → to < length d → Put d (set d to b) to (b ∷ [])
 put_one d to b h = put_stores d to (b ∷ []) (omega arith)
+
+-- a turn of the loop that copies
+pub copy_more :
+    (d e : List ℕ) (to : ℕ) (s : List ℕ) (from k : ℕ) → to + k < length d → from + k < length s
+    → e ≡ paste d to (drop from s) k
+    → set e (to + k) (get_or s (from + k) 0) ≡ paste d to (drop from s) (k + 1)
+copy_more d e to s from k h l q =
+    rw (q, ← get_or-drop from s k 0, add-one k) (paste-suc d to (drop from s) k 0 h (omega (arith, length-drop from s)))
 
 module _ (d e : List ℕ) (to : ℕ) (v : List ℕ) (p : Put d e to v) where
   head_length : length (take to d ++ v) ≡ to + length v

@@ -66,12 +66,16 @@ pub fn encode_utf8(dst: &mut [u8], to: usize, v: u32) -> usize
     4
 }
 
-// Writes n bytes of one slice, from a place on, at a place of another.
+// Writes n bytes of one slice, from a place on, at a place of another. Byte by byte: by `copy_from_slice` the library
+// would need `memmove` of whoever links it (tried), and README.md promises that it needs no more than `memcpy`.
+#[tactic(auto, using(crate::proofs::PutLaws::copy_more))]
 pub fn copy(dst: &mut [u8], to: usize, src: &[u8], from: usize, n: usize)
     requires { (to + n ≤ length dst.old) × (from + n ≤ length src.now) }
     ensures { Put dst.old dst.new to (take n (drop from src.now)) }
 {
-    dst[to..to + n].copy_from_slice(&src[from..from + n]);
+    for k in 0..n {
+        dst[to + k] = src[from + k];
+    }
 }
 
 // Writes the bytes of a text at a place of a buffer; returns where they end.
