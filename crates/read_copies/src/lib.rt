@@ -6,7 +6,7 @@ ghost use Rattle.std.specs.Prelude.{◌≡◌, ◌++◌, ℕ, ◌+◌, ◌-◌, 
 ghost use Rattle.std.proofs.Math.Seq.{slice};
 ghost use Rattle.wat_values.specs.Values.{copy as copy_of, bare, kept};
 ghost use Rattle.wat_values.specs.Reading.{Handed};
-ghost use Rattle.buffers.specs.Writing.{Put};
+ghost use Rattle.buffers.specs.Writing.{Put, Added};
 ghost use Rattle.read_copies.specs.Copying.{HandsDigits};
 
 use wat::{Refusal, Sign};
@@ -51,9 +51,19 @@ fn copy(text: &[u8], from: usize, to: usize, sign: Sign, buffer: &mut [u8]) -> R
             place: NO_PLACE,
         };
     }
-    let next = buffers::append(buffer, 0, first);
+    let next = put_first(buffer, first);
     bare_into(text, from, to, buffer, next);
     Reading::Buffer { start: 0, len }
+}
+
+// Writes bytes at the front of the buffer; returns where they end. By `buffers::append` the sign would be a call of
+// `memset`, and README.md promises that the library needs no more than `memcpy`.
+fn put_first(buffer: &mut [u8], first: &[u8]) -> usize
+    requires { length first.now ≤ length buffer.old }
+    ensures { Added buffer.old buffer.new 0 first.now result }
+{
+    buffer[..first.len()].copy_from_slice(first);
+    first.len()
 }
 
 // The sign that is handed over: a `+` is dropped.

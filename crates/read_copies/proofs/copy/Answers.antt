@@ -15,7 +15,7 @@ pub returns : goal.returns
 returns c =
     let a = c.args in
     let k = c.kept-first in
-    let p = c.append-next in
+    let p = c.put_first-next in
     let s = bare (slice a.from a.to a.text.now) in
     let l : p.result ≡ length (kept a.sign) = omega (arith, k.ensures.len, p.ensures.ends) in
     let n : length k.result.now + c.bare_len.result ≡ p.result + length s =
