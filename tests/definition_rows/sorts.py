@@ -53,7 +53,7 @@ use Rattle.evidence.specs.Evidence as evidence
 """
 WORD_IMPORTS = """\
 use lib.Dec.{lit<, lit≤}
-use Rattle.wat_values.specs.declared.IntegerValue.TheVariants as value
+use Rattle.wat_values.specs.IntegerValue as value
 use Rattle.wat.specs.Numbers.{Signed}
 use Rattle.wat.specs.Strings.{Hex}
 use Rattle.wat_values.specs.Integers.{radix, Num, Word, IntegerWord, Worded, out_of_range_number}

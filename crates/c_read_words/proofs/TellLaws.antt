@@ -5,9 +5,10 @@ use mathlib.Core.Path.{◌≡◌, refl, sym, ap}
 use mathlib.Core.List.{List}
 use native.Mathlib.Omega.{arith}
 use lib.ListN.{get_or, take}
+use Rattle.std.specs.Prelude.{Some, None, Ok, Err}
 use Rattle.wat.specs.declared.Refusal.{Refusal}
-use Rattle.wat_values.specs.declared.{IntegerValue.IntegerValue, NameKind.NameKind, NameReading.NameReading}
-use Rattle.wat_values.specs.declared.IntegerValue.TheVariants.{Refused, OutOfRange, Word}
+use Rattle.wat_values.specs.declared.{NameKind.NameKind, NameReading.NameReading}
+use Rattle.wat_values.specs.IntegerValue.{IntegerValue, Refused, OutOfRange, Word}
 use Rattle.wat_values.specs.declared.NameKind.TheVariants.{Id, Annotation}
 use Rattle.wat_values.specs.declared.NameReading.TheVariants as name
 use Rattle.c_words.specs.Words.{refused_words}
@@ -21,15 +22,18 @@ refused_in_range : (r : Refusal) (p : ℕ) → refused_words r p ≡ integer_wor
 refused_in_range r p e = omega (arith, refused_number r p (integer_words OutOfRange) e)
 
 pub integer_words_tell : (a b : IntegerValue) → integer_words a ≡ integer_words b → a ≡ b
-integer_words_tell (Refused r p) (Refused q o) e = let z = refused_words_tell r q p o e in cc (z.0, z.1)
-integer_words_tell (Refused r p) OutOfRange e = absurd (refused_in_range r p e)
-integer_words_tell (Refused r p) (Word v) e = absurd (omega (arith, ap (word 0) e))
-integer_words_tell OutOfRange (Refused r p) e = absurd (refused_in_range r p (sym e))
-integer_words_tell OutOfRange OutOfRange e = refl
-integer_words_tell OutOfRange (Word v) e = absurd (omega (arith, ap (word 0) e))
-integer_words_tell (Word v) (Refused r p) e = absurd (omega (arith, ap (word 0) e))
-integer_words_tell (Word v) OutOfRange e = absurd (omega (arith, ap (word 0) e))
-integer_words_tell (Word v) (Word u) e = ap (λ (w : List ℕ). Word (get_or w 1 0)) e
+integer_words_tell (Err r) (Err q) e =
+    let z = refused_words_tell r.refusal q.refusal r.place q.place e in
+    let same : Refused r.refusal r.place ≡ Refused q.refusal q.place = cc (z.0, z.1) in
+    same
+integer_words_tell (Err r) (Ok None) e = absurd (refused_in_range r.refusal r.place e)
+integer_words_tell (Err r) (Ok (Some v)) e = absurd (omega (arith, ap (word 0) e))
+integer_words_tell (Ok None) (Err r) e = absurd (refused_in_range r.refusal r.place (sym e))
+integer_words_tell (Ok None) (Ok None) e = refl
+integer_words_tell (Ok None) (Ok (Some v)) e = absurd (omega (arith, ap (word 0) e))
+integer_words_tell (Ok (Some v)) (Err r) e = absurd (omega (arith, ap (word 0) e))
+integer_words_tell (Ok (Some v)) (Ok None) e = absurd (omega (arith, ap (word 0) e))
+integer_words_tell (Ok (Some v)) (Ok (Some u)) e = ap (λ (w : List ℕ). Word (get_or w 1 0)) e
 
 kind_word_tells : (n m : NameKind) → kind_word n ≡ kind_word m → n ≡ m
 kind_word_tells Id Id e = refl

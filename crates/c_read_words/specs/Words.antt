@@ -1,16 +1,15 @@
 -- The answers of the readers and of the messages as words, for C: the layout that include/thallusweb.h explains.
-use Rattle.std.specs.Prelude.{ℕ, List, [], ◌∷◌, ◌++◌, Result, Ok, Err}
+use Rattle.std.specs.Prelude.{ℕ, List, [], ◌∷◌, ◌++◌, Some, None, Result, Ok, Err}
 use Rattle.wat.specs.declared.{Sign.Sign, Refusal.Refusal}
 use Rattle.wat_values.specs.declared.{Reading.Reading, NameKind.NameKind, NameReading.NameReading}
 use Rattle.wat_values.specs.declared.{IntegerSign.IntegerSign, FloatSign.FloatSign}
-use Rattle.wat_values.specs.declared.IntegerValue.{IntegerValue}
+use Rattle.wat_values.specs.IntegerValue.{IntegerValue}
 use Rattle.wat.specs.declared.Sign.TheVariants.{Unsigned, Plus, Minus}
 use Rattle.wat.specs.declared.TokenKind.TheVariants as kind
 use Rattle.wat_values.specs.declared.Reading.TheVariants as reading
 use Rattle.wat_values.specs.declared.NameKind.TheVariants as name_of
 use Rattle.wat_values.specs.declared.NameReading.TheVariants as name
 use Rattle.wat_values.specs.declared.IntegerSign.TheVariants as integer
-use Rattle.wat_values.specs.declared.IntegerValue.TheVariants as value
 use Rattle.wat_values.specs.declared.FloatSign.TheVariants as float
 use Rattle.wat.specs.Cases.{flag, kind_number}
 use Rattle.wat_values.specs.Reading.{no_place, reading_of}
@@ -50,9 +49,9 @@ integer_sign_words (integer.Sign s) = 1 ∷ sign_word s ∷ 0 ∷ 0 ∷ 0 ∷ []
 
 -- the word of an integer, or a refusal; a literal that is out of range is one, and has no place and no values
 abbrev pub integer_words : IntegerValue → List ℕ
-integer_words (value.Refused r p) = refused_words r p
-integer_words value.OutOfRange = 2 ∷ out_of_range_number ∷ no_place ∷ 0 ∷ 0 ∷ []
-integer_words (value.Word v) = 1 ∷ v ∷ 0 ∷ 0 ∷ 0 ∷ []
+integer_words (Err e) = refused_words e.refusal e.place
+integer_words (Ok None) = 2 ∷ out_of_range_number ∷ no_place ∷ 0 ∷ 0 ∷ []
+integer_words (Ok (Some v)) = 1 ∷ v ∷ 0 ∷ 0 ∷ 0 ∷ []
 
 abbrev pub float_sign_words : FloatSign → List ℕ
 float_sign_words (float.Refused r p) = refused_words r p

@@ -5,8 +5,8 @@ ghost use Rattle.std.specs.Prelude.{◌≡◌};
 ghost use Rattle.c_read_words.specs.Words.{reading_words, name_words, name_word, kind_word};
 ghost use Rattle.c_read_words.specs.Words.{integer_sign_words, integer_words, float_sign_words, message_words};
 
-use wat::{Refusal, Sign};
-use wat_values::{FloatSign, IntegerSign, IntegerValue, NameKind, NameReading, Reading};
+use wat::{Refusal, Refused, Sign};
+use wat_values::{FloatSign, IntegerSign, NameKind, NameReading, Reading};
 
 // What a reader found of a token.
 pub fn reading_words(r: Reading) -> [u64; 5]
@@ -72,13 +72,13 @@ pub fn integer_sign_words(s: IntegerSign) -> [u64; 5]
     }
 }
 
-pub fn integer_words(v: IntegerValue) -> [u64; 5]
+pub fn integer_words(v: Result<Option<u64>, Refused>) -> [u64; 5]
     ensures { result ≡ integer_words v }
 {
     match v {
-        IntegerValue::Refused { refusal, place } => c_words::refused_words(refusal, place),
-        IntegerValue::OutOfRange => [2, 40, 0, 0, 0],
-        IntegerValue::Word(word) => [1, word, 0, 0, 0],
+        Err(e) => c_words::refused_words(e.refusal, e.place),
+        Ok(None) => [2, 40, 0, 0, 0],
+        Ok(Some(word)) => [1, word, 0, 0, 0],
     }
 }
 

@@ -5,12 +5,13 @@ use mathlib.Core.List.{List}
 use lib.ListN.{take, drop}
 use Rattle.wat.specs.declared.{Token.Token, Refusal.Refusal}
 use Rattle.wat_values.specs.declared.{Reading.Reading, NameReading.NameReading, IntegerSign.IntegerSign}
-use Rattle.wat_values.specs.declared.{FloatSign.FloatSign, IntegerValue.IntegerValue}
+use Rattle.wat_values.specs.declared.FloatSign.{FloatSign}
+use Rattle.wat_values.specs.IntegerValue.{IntegerValue}
 use Rattle.wat_values.specs.declared.Reading.TheVariants as reading
 use Rattle.wat_values.specs.declared.NameReading.TheVariants as name
 use Rattle.wat_values.specs.declared.IntegerSign.TheVariants as integer
 use Rattle.wat_values.specs.declared.FloatSign.TheVariants as float
-use Rattle.wat_values.specs.declared.IntegerValue.TheVariants as value
+use Rattle.wat_values.specs.IntegerValue as value
 use Rattle.wat_values.specs.Reading.{There, Missing, Read, ReadsName, ReadsSign, ReadsNegative}
 use Rattle.wat_values.specs.Integers.{ReadsWord}
 use Rattle.wat.proofs.Unique.{tok_some, token_longest}

@@ -18,7 +18,7 @@ const NOT_THAT_TOKEN: Refused = Refused {
 };
 
 // 31.
-const NOT_THAT_KIND: Refused = Refused {
+pub const NOT_THAT_KIND: Refused = Refused {
     refusal: Refusal::NotThatKind,
     place: NO_PLACE,
 };

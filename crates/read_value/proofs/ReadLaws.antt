@@ -7,8 +7,8 @@ use lib.Seq.{slice}
 use Rattle.wat.specs.declared.{IntegerKind.IntegerKind, FloatKind.FloatKind, Token.Token, Refused.Refused}
 use Rattle.wat.specs.declared.Refusal.TheVariants.{NotThatKind}
 use Rattle.wat.specs.declared.TokenKind.TheVariants as kind
-use Rattle.wat_values.specs.declared.IntegerValue.{IntegerValue}
-use Rattle.wat_values.specs.declared.IntegerValue.TheVariants as value
+use Rattle.wat_values.specs.IntegerValue.{IntegerValue}
+use Rattle.wat_values.specs.IntegerValue as value
 use Rattle.wat_values.specs.Reading.{There, no_place}
 use Rattle.wat_values.specs.Integers.{Worded, ReadsWord}
 use Rattle.wat_values.proofs.SomeValue.{made, kinds_apart}

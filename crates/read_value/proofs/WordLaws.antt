@@ -8,7 +8,7 @@ use mathlib.Core.List.{List, [], ◌++◌, append-nil}
 use lib.Seq.{slice}
 use Rattle.wat.specs.declared.Sign.{Sign}
 use Rattle.wat.specs.declared.Sign.TheVariants.{Unsigned, Plus, Minus}
-use Rattle.wat_values.specs.declared.IntegerValue.TheVariants as value
+use Rattle.wat_values.specs.IntegerValue as value
 use Rattle.wat.specs.Numbers.{prefix, IsInteger, IsFloat}
 use Rattle.wat_values.specs.Values.{Split}
 use Rattle.wat_values.specs.Integers.{radix, Num, Word, IntegerWord, Worded}

@@ -2,7 +2,7 @@
 
 #![tactic(auto)]
 
-ghost use Rattle.std.specs.Prelude.{◌≡◌, ℕ, ◌+◌, ◌^◌, ◌≤◌, length};
+ghost use Rattle.std.specs.Prelude.{◌≡◌, ℕ, ◌+◌, ◌^◌, ◌≤◌, Ok, length};
 ghost use Rattle.std.proofs.Math.Seq.{slice};
 ghost use Rattle.wat.specs.Numbers.{IsInteger};
 ghost use Rattle.wat_values.specs.Integers.{radix, Worded, ReadsWord};
@@ -11,18 +11,17 @@ ghost use Rattle.read_parts.specs.Handing.{At};
 ghost use Rattle.read_value.specs.Amounts.{Amounts, greatest, word_of};
 
 use lex_classes::Table;
-use wat::{IntegerKind, NumberKind, Refusal, Refused, Sign, Token};
-use wat_values::{IntegerValue, NO_PLACE};
+use wat::{IntegerKind, NumberKind, Refused, Sign, Token};
 
-// The word of 32 bits.
-pub fn integer_32(text: &[u8], token: Token) -> IntegerValue
+// The word of 32 bits, or none where the integer is out of range: 40.
+pub fn integer_32(text: &[u8], token: Token) -> Result<Option<u64>, Refused>
     ensures { ReadsWord 32 text.now token result }
 {
     integer_word(text, token, 0xFFFF_FFFF)
 }
 
-// The word of 64 bits.
-pub fn integer_64(text: &[u8], token: Token) -> IntegerValue
+// The word of 64 bits, or none where the integer is out of range: 40.
+pub fn integer_64(text: &[u8], token: Token) -> Result<Option<u64>, Refused>
     ensures { ReadsWord 64 text.now token result }
 {
     integer_word(text, token, 0xFFFF_FFFF_FFFF_FFFF)
@@ -31,37 +30,31 @@ pub fn integer_64(text: &[u8], token: Token) -> IntegerValue
 // The word of as many bits as `max`, all ones, has.
 // `max` tells the two apart: a trait with a constant, at u32 and u64, would be longer and say no more.
 #[tactic(auto, using(crate::proofs::ReadLaws::integers))]
-fn integer_word(text: &[u8], token: Token, max: u64) -> IntegerValue
+fn integer_word(text: &[u8], token: Token, max: u64) -> Result<Option<u64>, Refused>
     ensures { (N : ℕ) → 2 ^ N ≡ max + 1 → ReadsWord N text.now token result }
 {
     let t = Table::new();
-    match read_token::number_kind(text, token, &t) {
-        Err(Refused { refusal, place }) => IntegerValue::Refused { refusal, place },
-        Ok(NumberKind::Float(_)) => IntegerValue::Refused {
-            refusal: Refusal::NotThatKind,
-            place: NO_PLACE,
-        },
-        Ok(NumberKind::Integer(kind)) => {
+    match read_token::number_kind(text, token, &t)? {
+        NumberKind::Float(_) => Err(read_token::NOT_THAT_KIND),
+        NumberKind::Integer(kind) => {
             let at = token.offset;
             let end = at + token.len as usize;
-            word_at(text, at, end, kind, max)
+            Ok(word_at(text, at, end, kind, max))
         }
     }
 }
 
-// The word of the literal from `at` to `end`.
+// The word of the literal from `at` to `end`, if it has one.
 #[tactic(auto, using(crate::proofs::WordLaws::also_float))]
-fn word_at(text: &[u8], at: usize, end: usize, kind: IntegerKind, max: u64) -> IntegerValue
+fn word_at(text: &[u8], at: usize, end: usize, kind: IntegerKind, max: u64) -> Option<u64>
     requires { At (IsInteger kind.sign kind.hex) text.now at end }
-    ensures { (N : ℕ) → 2 ^ N ≡ max + 1 → Worded N (slice at end text.now) result }
+    ensures { (N : ℕ) → 2 ^ N ≡ max + 1 → Worded N (slice at end text.now) (Ok result) }
 {
     let hex = kind.hex;
     let from = read_parts::past_prefix(text, at, end, hex);
     let sign = kind.sign;
-    match number(text, from, end, hex, greatest(sign, max)) {
-        None => IntegerValue::OutOfRange,
-        Some(n) => IntegerValue::Word(word_of(sign, n, max)),
-    }
+    let n = number(text, from, end, hex, greatest(sign, max))?;
+    Some(word_of(sign, n, max))
 }
 
 // The greatest number that stands behind a sign.

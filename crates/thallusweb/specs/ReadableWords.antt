@@ -9,7 +9,7 @@ use Rattle.std.proofs.Math.Option.{some}
 use Rattle.wat.specs.declared.{Sign.Sign, TokenKind.TokenKind, LexError.LexError, Settings.Settings}
 use Rattle.wat.specs.declared.TokenKind.TheVariants as kind
 use Rattle.wat.specs.declared.{IntegerKind.IntegerKind, FloatKind.FloatKind, Refusal.TheVariants.Lexical}
-use Rattle.wat_values.specs.declared.{Reading.Reading, IntegerValue.IntegerValue}
+use Rattle.wat_values.specs.{declared.Reading.Reading, IntegerValue.IntegerValue}
 use Rattle.wat_values.specs.declared.Reading.TheVariants.{Refused, Absent, Text, Buffer}
 use Rattle.wat.specs.Cases.{flag, kind_number}
 use Rattle.wat.specs.Numbers.{negative}

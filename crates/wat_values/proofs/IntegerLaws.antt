@@ -12,8 +12,8 @@ use Rattle.wat.specs.declared.{Sign.Sign, Token.Token}
 use Rattle.wat.specs.declared.Sign.TheVariants.{Unsigned, Plus, Minus}
 use Rattle.wat.specs.declared.Number.TheVariants.{Integer}
 use Rattle.wat.specs.declared.Settings.{Settings}
-use Rattle.wat_values.specs.declared.IntegerValue.{IntegerValue}
-use Rattle.wat_values.specs.declared.IntegerValue.TheVariants as value
+use Rattle.wat_values.specs.IntegerValue.{IntegerValue}
+use Rattle.wat_values.specs.IntegerValue as value
 use Rattle.wat.specs.{Bytes.byte, Bytes.has}
 use Rattle.wat.specs.Numbers.{digit, prefix, Digits, Signed, Fraction, Exponent, IsInteger, Literal}
 use Rattle.wat.specs.Strings.{Hex, HexNum}

@@ -5,8 +5,8 @@ use Rattle.wat.specs.declared.{Sign.Sign, IntegerKind.IntegerKind, Token.Token, 
 use Rattle.wat.specs.declared.Sign.TheVariants.{Unsigned, Plus, Minus}
 use Rattle.wat.specs.declared.TokenKind.TheVariants as kind
 use Rattle.wat.specs.declared.Refusal.TheVariants.{NotThatKind}
-use Rattle.wat_values.specs.declared.IntegerValue.{IntegerValue}
-use Rattle.wat_values.specs.declared.IntegerValue.TheVariants as value
+use Rattle.wat_values.specs.IntegerValue.{IntegerValue}
+use Rattle.wat_values.specs.IntegerValue as value
 use Rattle.wat.specs.{Bytes.byte, Strings.Hex}
 use Rattle.wat.specs.Numbers.{prefix, Signed}
 use Rattle.wat_values.specs.Reading.{There, no_place, Missing, own}

@@ -62,11 +62,3 @@ pub enum FloatSign {
     Absent,
     Negative(bool),
 }
-
-// The value of an integer: a refusal and its place; out of range, 40; or its word of so many bits.
-#[derive(Clone, Copy)]
-pub enum IntegerValue {
-    Refused { refusal: Refusal, place: usize },
-    OutOfRange,
-    Word(u64),
-}
