@@ -1,4 +1,5 @@
 // Decodes what a C caller passes: settings (a word of bits) and a token (three words). include/thallusweb.h has them.
+// A word becomes a usize by `as`: std has no `From` for that.
 #![tactic(auto)]
 
 ghost use Rattle.std.specs.Prelude.{◌≡◌, IfSome, IfNone};

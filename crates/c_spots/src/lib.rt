@@ -1,4 +1,5 @@
 // The part that a reader's answer names, and the place counter, in words. include/thallusweb.h explains them.
+// A usize becomes a word by `as`: std has no `From` of it.
 #![tactic(auto)]
 
 ghost use Rattle.c_spots.specs.Spots.{PartWords, Lies, MovedWords};

@@ -1,4 +1,5 @@
 // The lexer's answers as words: what crosses the border to C. include/thallusweb.h explains each word.
+// A usize becomes a word by `as`: std has no `From` of it.
 #![tactic(auto)]
 
 ghost use Rattle.std.specs.Prelude.{◌≡◌};
@@ -22,7 +23,7 @@ pub fn refused_words(r: Refusal, place: usize) -> [u64; 5]
     ensures { result ≡ refused_words r place }
 {
     let c = codes::refusal_code(r);
-    [2, c.number as u64, place as u64, c.first, c.second]
+    [2, u64::from(c.number), place as u64, c.first, c.second]
 }
 
 pub fn checked_words(c: Result<(), Utf8Error>) -> [u64; 3]
@@ -43,9 +44,9 @@ pub fn found_words(f: Result<Option<Token>, Refused>) -> [u64; 5]
             let k = t.kind;
             [
                 1,
-                codes::kind_number(k) as u64,
+                u64::from(codes::kind_number(k)),
                 t.offset as u64,
-                t.len as u64,
+                u64::from(t.len),
                 0,
             ]
         }

@@ -1,4 +1,5 @@
 // The numbers of kinds, errors and refusals (docs/RULES.md, 1 to 14), a number's kind, and what a refusal carries.
+// A usize becomes a u64 by `as`: std has no `From` of it.
 
 #![tactic(auto)]
 

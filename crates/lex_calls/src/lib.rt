@@ -1,5 +1,6 @@
 // The calls for one token, `parse` and `annotation`: the Rust's `Lexer`, with the text, its flag and the position as
 // plain parameters, and the errors.
+// A length, a usize, becomes a u32 by `as`: std has no `From` for that.
 
 #![tactic(auto)]
 

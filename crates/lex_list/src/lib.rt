@@ -1,4 +1,5 @@
 // The listing: the tokens of a text from a start on, as records in a lent list. The Rust's `iter` up to an error.
+// A length, a usize, becomes a u32 by `as`: std has no `From` for that.
 
 #![tactic(auto)]
 

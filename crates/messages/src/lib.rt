@@ -1,4 +1,5 @@
 // The message of an error: the Rust's `Display` of `LexError`, into a lent buffer, as specs/Messages defines it.
+// A u32 becomes a usize by `as`: std has no `From` for that.
 #![tactic(auto)]
 
 ghost use Rattle.std.specs.Prelude.{◌+◌, ◌^◌, ◌≤◌, ◌<◌, ◌≡◌, ◌++◌, length, IfSome, IfNone};

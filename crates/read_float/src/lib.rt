@@ -1,4 +1,5 @@
 // The readers of floats, the Rust's `Token::float`: its parts, one call for each, and whether it is negative.
+// A token's length becomes a usize by `as`: std has no `From` of u32 for it.
 
 #![tactic(auto)]
 

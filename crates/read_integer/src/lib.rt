@@ -1,4 +1,5 @@
 // The readers of integers, the Rust's `Token::integer`: a sign, and the digits.
+// A token's length becomes a usize by `as`: std has no `From` of u32 for it.
 
 #![tactic(auto)]
 

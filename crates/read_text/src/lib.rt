@@ -1,5 +1,6 @@
 // The readers of all but numbers: the Rust's `Token::src` and `string`, and for its `id` and `annotation` `name`, each
 // as two calls. The first writes a copy if one is needed and says where the value is; the second returns that part.
+// A token's length becomes a usize by `as`: std has no `From` of u32 for it.
 
 #![tactic(auto)]
 

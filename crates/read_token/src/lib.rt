@@ -1,4 +1,5 @@
 // Whether a token that a caller hands in is there, of a kind, a number, and one that has a name.
+// A token's length becomes a usize by `as`: std has no `From` of u32 for it.
 
 #![tactic(auto)]
 

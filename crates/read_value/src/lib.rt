@@ -1,4 +1,5 @@
 // The value of an integer by the standard: the word of 32 or 64 bits that its literal is.
+// A token's length becomes a usize by `as`: std has no `From` of u32 for it.
 
 #![tactic(auto)]
 
@@ -102,7 +103,7 @@ fn number(text: &[u8], from: usize, end: usize, hex: bool, limit: u64) -> Option
                 return None;
             }
             let m = n * radix;
-            let d = lex_classes::hex_value(c) as u64;
+            let d = u64::from(lex_classes::hex_value(c));
             if limit - m < d {
                 return None;
             }

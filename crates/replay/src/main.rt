@@ -1,5 +1,6 @@
 // Answers of the Rust, recorded by `oracle record` (tests/oracle), replayed against Thallusweb: how many agree, by
 // type of row. `replay_rows` describes the rows of the file `answers`.
+// A row's number becomes a usize by `as`: std has no `From` of u64 for it.
 #![tactic(auto)]
 
 ghost use Rattle.std.specs.Prelude.{◌≢◌, IfErr};

@@ -17,6 +17,7 @@
 // 2 a refusal, 3 no room; its kind or number; its offset or place; its length or first value; its second value; the
 // position or the count; the listing's position. Of type 4: the five words of thallusweb_read (include/thallusweb.h),
 // the token's length, 0. Of type 5: the same of thallusweb_name, the token's length, its sixth word.
+// A usize becomes a u64 by `as`: std has no `From` of it.
 #![tactic(auto)]
 
 ghost use Rattle.std.specs.Prelude.{◌+◌, ◌≤◌};

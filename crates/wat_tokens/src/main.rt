@@ -6,6 +6,7 @@ use std::io::Read;
 use std::process::ExitCode;
 
 // The most bytes that are read: one more than the longest input, so that a longer one is told by its length.
+// By `as`: std has no `From` of usize for u64.
 const MOST: u64 = tokens_output::LONGEST as u64 + 1;
 
 // What every output fits in.
