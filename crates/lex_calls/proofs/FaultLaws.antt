@@ -31,7 +31,7 @@ use Rattle.wat.specs.Faults.{fault, shift}
 use Rattle.lex_token.specs.Steps.{Faults}
 use Rattle.lex_token.proofs.LexLaws.{lex_family}
 use Rattle.lex_token.proofs.CommentLaws.{found_as, comment_on, comment_off, semi_alone, semi_comment}
-use Rattle.lex_token.proofs.CommentLaws.{open_alone, open_within, block_open, block_onward}
+use Rattle.lex_token.proofs.CommentLaws.{open_alone, open_within, block_open, block_onward, block_within}
 
 module _ {at : ℕ} {a : Answer} {f : Fault} where
   pub fault_none : {k : TokenKind} {n : ℕ} → a ≡ answer.Token k n → Faults at a f
@@ -104,4 +104,4 @@ family_fault σ s at {f = f} h e q = subst (λ (a : Answer). Faults at a f) (sym
 -- the errors of a comment and of a block comment
 pub ruleset comment_faults = (comment_clear, comment_found)
 
-pub ruleset block_faults = (fault_none, fault_here, open_alone, open_within, block_open, block_onward)
+pub ruleset block_faults = (fault_none, fault_here, open_alone, open_within, block_open, block_onward, block_within)

@@ -123,14 +123,13 @@ fn block_fault(s: &[u8], at: usize) -> Fault
     if !lex_token::is_at(s, at + 1, b';') {
         return no_error(at);
     }
-    let end = lex_comments::block_end(s, at + 2);
-    if end == 0 {
+    let Some(end) = lex_comments::block_end(s, at + 2) else {
         return Fault {
             error: LexError::DanglingBlockComment,
             place: at,
             after: at,
         };
-    }
+    };
     comment_fault(s, at, end)
 }
 

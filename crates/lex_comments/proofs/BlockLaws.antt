@@ -5,6 +5,7 @@ use mathlib.Core.Logic.{◌⊎◌, ⊎_elim, ⊎_map}
 use mathlib.Core.Bool.{Bool, true, false, ◌&&◌, and-eq-true_iff}
 use mathlib.Core.List.{List, [], ◌∷◌}
 use mathlib.Core.Option.{Option, none, some}
+use Rattle.std.specs.Prelude.{Some, None}
 use native.Mathlib.Omega.{arith}
 use native.Mathlib.Nat.{add_assoc}
 use native.Mathlib.Numerals.{add-one}
@@ -14,7 +15,7 @@ use borrow.Author.Tests.{eqb-true}
 use Rattle.wat.specs.Bytes.{byte}
 use Rattle.wat.specs.CommentModel.{fresh, further, opens, ends}
 use Rattle.wat.proofs.Blocks.{further_further}
-use Rattle.wat.proofs.Basics.{or_split, or_no, below}
+use Rattle.wat.proofs.Basics.{or_split, or_no, below, differ}
 use Rattle.lex_classes.proofs.SearchLaws.{clear_carries}
 use Rattle.lex_classes.specs.Scan.{Clear, Earliest}
 use Rattle.lex_comments.specs.Ends.{mark, mark_at, end_of, BlockEnd}
@@ -61,16 +62,20 @@ no_marks s i h = record { none = λ k a l. no_mark s k (omega (arith, a, h)) }
 
 end_further : (i n : ℕ) (o : Option ℕ) → end_of i (further n o) ≡ end_of (i + n) o
 end_further i n none = refl
-end_further i n (some m) = sym (add_assoc i n m)
+end_further i n (some m) = ap Some (sym (add_assoc i n m))
 
 -- for a caller: nowhere, and the distance
-pub open_none : (at : ℕ) (o : Option ℕ) → 0 < at → end_of at o ≡ 0 → o ≡ none
-open_none at none h e = refl
-open_none at (some n) h e = absurd (omega arith)
+pub open_none : (at : ℕ) (o : Option ℕ) → None ≡ end_of at o → o ≡ none
+open_none at none e = refl
+open_none at (some n) e = differ (cc)
 
-pub closed_some : (at r : ℕ) (o : Option ℕ) → 0 < r → r ≡ end_of at o → o ≡ some (r - at)
-closed_some at r none h e = absurd (omega arith)
-closed_some at r (some n) h e = ap some (omega arith)
+pub closed_some : (at r : ℕ) (o : Option ℕ) → Some r ≡ end_of at o → o ≡ some (r - at)
+closed_some at r none e = differ (cc)
+closed_some at r (some n) e = let q : r ≡ at + n = cc in ap some (omega arith)
+
+pub closed_onward : (at r : ℕ) (o : Option ℕ) → Some r ≡ end_of at o → at ≤ r
+closed_onward at r none e = differ (cc)
+closed_onward at r (some n) e = let q : r ≡ at + n = cc in omega arith
 
 -- ---- the bytes at the front
 
@@ -154,18 +159,19 @@ module _ (s : List ℕ) (at : ℕ) where
           ap (λ (n : ℕ). ends fresh n (drop k s)) e ∙ rw closes (ends_close (l - 1) (drop (k + 2) s)) in
           moved 2 (l - 1) p (mark_whole s k m) (omega (arith, p.shallow)) f
 
-      ended : l ≡ 0 → BlockEnd s at (k + 2)
+      ended : l ≡ 0 → BlockEnd s at (Some (k + 2))
       ended z =
           let f : ends fresh l (drop k s) ≡ some 2 = rw (z, closes) (ends_last (drop (k + 2) s)) in
-          record { end = ap (end_of k) (sym f) ∙ p.same; within = mark_whole s k m }
+          let w = mark_whole s k m in
+          record { end = ap (end_of k) (sym f) ∙ p.same; within = λ n e. let q : k + 2 ≡ n = cc in omega arith }
 
   -- from a place i inside l comments, where no mark follows
-  pub inside_none : (i l : ℕ) → Clear (mark_at s) i (length s) → Inside s at i l → BlockEnd s at 0
+  pub inside_none : (i l : ℕ) → Clear (mark_at s) i (length s) → Inside s at i l → BlockEnd s at None
   unfolding ends
   inside_none i l q a =
       let p = inside_plain i l (length s) a a.within (omega arith) q in
       let e : ends fresh l (drop (length s) s) ≡ none = ap (ends fresh l) (drop_of_length-le s {i = length s} (omega arith)) in
-      record { end = sym (ap (end_of (length s)) e) ∙ p.same; within = omega arith }
+      record { end = sym (ap (end_of (length s)) e) ∙ p.same; within = λ n q. differ (cc) }
 
   -- and by the next mark
   module _ (i k l : ℕ) (q : Earliest (mark_at s) i (length s) k) (a : Inside s at i l) where
@@ -178,7 +184,7 @@ module _ (s : List ℕ) (at : ℕ) where
     pub inside_close : (get_or s k 0 ≡ byte "(" → ⊥) → (l ≡ 0 → ⊥) → Inside s at (k + 2) (l - 1)
     inside_close o z = closed k l here q.passes o (omega arith)
 
-    pub inside_last : (get_or s k 0 ≡ byte "(" → ⊥) → l ≡ 0 → BlockEnd s at (k + 2)
+    pub inside_last : (get_or s k 0 ≡ byte "(" → ⊥) → l ≡ 0 → BlockEnd s at (Some (k + 2))
     inside_last o = ended k l here q.passes o
 
 pub ruleset blocks = (inside_start, inside_none, inside_open, inside_close, inside_last)

@@ -81,24 +81,22 @@ fn next_mark(s: &[u8], at: usize) -> Option<usize>
     far_mark(s, at + 8)
 }
 
-// The place past a block comment whose `(;` ends at `at`, or 0 if nothing closes it. The marks are ASCII, and in UTF-8
+// The place past a block comment whose `(;` ends at `at`, if anything closes it. The marks are ASCII, and in UTF-8
 // no other character has such a byte: bytes are looked at, and no character is decoded.
 #[tactic(auto, using(crate::proofs::BlockLaws::blocks))]
-pub fn block_end(s: &[u8], at: usize) -> usize
+pub fn block_end(s: &[u8], at: usize) -> Option<usize>
     requires { at ≤ length s.now }
     ensures { BlockEnd s.now at result }
 {
     let mut level: usize = 0;
     let mut i = at;
     loop {
-        let Some(k) = next_mark(s, i) else {
-            return 0;
-        };
+        let k = next_mark(s, i)?;
         i = k + 2;
         if s[k] == b'(' {
             level += 1;
         } else if level == 0 {
-            return i;
+            return Some(i);
         } else {
             level -= 1;
         }

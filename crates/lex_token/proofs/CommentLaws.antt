@@ -4,7 +4,7 @@ use mathlib.Core.Path.{◌≡◌, refl, sym, ap, ◌∙◌}
 use mathlib.Core.Bool.{Bool, true, false}
 use mathlib.Core.List.{List, [], ◌∷◌}
 use mathlib.Core.Option.{none, some}
-use Rattle.std.specs.Prelude.{Option, Some}
+use Rattle.std.specs.Prelude.{Option, Some, None}
 use native.Mathlib.Omega.{arith}
 use lib.Dec.{ltb}
 use lib.ListN.{length, get_or, drop, length-drop}
@@ -28,8 +28,8 @@ use Rattle.wat.specs.LexModel.{next, hidden, comment_by, comment, block_by, lex_
 use Rattle.wat.proofs.Basics.{never}
 use Rattle.lex_classes.specs.Scan.{Scanned}
 use Rattle.wat.specs.declared.Hidden.TheVariants.{Clear, Found}
-use Rattle.lex_comments.specs.Ends.{line_stop, end_of, BlockEnd}
-use Rattle.lex_comments.proofs.BlockLaws.{open_none, closed_some}
+use Rattle.lex_comments.specs.Ends.{line_stop, BlockEnd}
+use Rattle.lex_comments.proofs.BlockLaws.{open_none, closed_some, closed_onward}
 use Rattle.lex_comments.specs.Confusing.{before, hidden_in}
 use Rattle.lex_comments.proofs.LineLaws.{line_ends_lem, line_hides_nothing, line_goes_on}
 use Rattle.lex_token.proofs.SliceLaws.{next_byte}
@@ -92,15 +92,18 @@ open_within s at n = go (drop (at + 1) s) refl n
     go [] e n = absurd (never n refl)
     go (x ∷ t) e n = omega (arith, length-drop (at + 1) s, ap length e)
 
-module _ (s : List ℕ) (at : ℕ) {end : ℕ} (e : BlockEnd s (at + 2) end) where
-  block_none : end ≡ 0 → ends fresh 0 (drop (at + 2) s) ≡ none
-  block_none z = open_none (at + 2) (ends fresh 0 (drop (at + 2) s)) (omega arith) (sym e.end ∙ z)
+block_none : (s : List ℕ) (at : ℕ) → BlockEnd s (at + 2) None → ends fresh 0 (drop (at + 2) s) ≡ none
+block_none s at e = open_none (at + 2) (ends fresh 0 (drop (at + 2) s)) e.end
 
-  block_some : (end ≡ 0 → ⊥) → ends fresh 0 (drop (at + 2) s) ≡ some (end - (at + 2))
-  block_some z = closed_some (at + 2) end (ends fresh 0 (drop (at + 2) s)) (omega arith) e.end
+module _ (s : List ℕ) (at : ℕ) {end : ℕ} (e : BlockEnd s (at + 2) (Some end)) where
+  block_some : ends fresh 0 (drop (at + 2) s) ≡ some (end - (at + 2))
+  block_some = closed_some (at + 2) end (ends fresh 0 (drop (at + 2) s)) e.end
 
-  pub block_onward : (end ≡ 0 → ⊥) → at + 2 ≤ end
-  block_onward z = let q : end ≡ at + 2 + (end - (at + 2)) = e.end ∙ ap (end_of (at + 2)) (block_some z) in omega arith
+  pub block_onward : at + 2 ≤ end
+  block_onward = closed_onward (at + 2) end (ends fresh 0 (drop (at + 2) s)) e.end
+
+  pub block_within : end ≤ length s
+  block_within = e.within end refl
 
 module _ (σ : Settings) (s : List ℕ) (at : ℕ) where
   second : next (byte ";") (drop 1 (drop at s)) ≡ next (byte ";") (drop (at + 1) s)
@@ -129,23 +132,24 @@ module _ (σ : Settings) (s : List ℕ) (at : ℕ) where
     block : lex_by σ open_paren (drop at s) ≡ block_by σ (drop at s) (ends fresh 0 (drop (at + 2) s))
     block = rw (second ∙ n, lex_by) (ap (λ (t : List ℕ). block_by σ (drop at s) (ends fresh 0 t)) (drop-drop 2 at s))
 
-    module _ {end : ℕ} (e : BlockEnd s (at + 2) end) where
-      pub block_open : end ≡ 0 → lex_by σ open_paren (drop at s) ≡ answer.Fault (fault DanglingBlockComment 0 0)
-      block_open z = block ∙ ap (block_by σ (drop at s)) (block_none s at e z)
+    pub block_open : BlockEnd s (at + 2) None → lex_by σ open_paren (drop at s) ≡ answer.Fault (fault DanglingBlockComment 0 0)
+    block_open e = block ∙ ap (block_by σ (drop at s)) (block_none s at e)
 
-      pub block_closed : (end ≡ 0 → ⊥) → lex_by σ open_paren (drop at s) ≡ comment σ kind.BlockComment (end - at) (drop at s)
-      block_closed z =
-          let l = block_onward s at e z in
-          block ∙ ap (block_by σ (drop at s)) (block_some s at e z)
-          ∙ ap (λ (n : ℕ). comment σ kind.BlockComment n (drop at s)) (omega arith)
+    pub block_closed :
+        {end : ℕ} → BlockEnd s (at + 2) (Some end)
+        → lex_by σ open_paren (drop at s) ≡ comment σ kind.BlockComment (end - at) (drop at s)
+    block_closed e =
+        let l = block_onward s at e in
+        block ∙ ap (block_by σ (drop at s)) (block_some s at e)
+        ∙ ap (λ (n : ℕ). comment σ kind.BlockComment n (drop at s)) (omega arith)
 
 -- what is answered for all of a comment is the token's
 module _ (σ : Settings) (s : List ℕ) (at end : ℕ) (r : Option Step) (b : Bool) where
   pub block_whole :
       r ≡ step_of at (comment σ kind.BlockComment (end - at) (drop at s))
-      → BlockEnd s (at + 2) end → (end ≡ 0 → ⊥) → b ≡ next (byte ";") (drop (at + 1) s) → b ≡ true
+      → BlockEnd s (at + 2) (Some end) → b ≡ next (byte ";") (drop (at + 1) s) → b ≡ true
       → r ≡ step_of at (lex_by σ open_paren (drop at s))
-  block_whole f e z q n = f ∙ ap (step_of at) (sym (block_closed σ s at (sym q ∙ n) e z))
+  block_whole f e q n = f ∙ ap (step_of at) (sym (block_closed σ s at (sym q ∙ n) e))
 
   pub line_whole :
       (j : ℕ) → r ≡ step_of at (comment σ kind.LineComment (end - at) (drop at s))
@@ -164,4 +168,4 @@ pub ruleset comments = (comment_on, comment_off)
 
 pub ruleset lines = (semi_alone, line_goes_on, line_plain)
 
-pub ruleset parens = (open_alone, open_within, block_open, block_onward)
+pub ruleset parens = (open_alone, open_within, block_open, block_onward, block_within)

@@ -138,10 +138,7 @@ fn open_paren(s: &[u8], at: usize, settings: Settings) -> Option<Step>
     if !is_at(s, at + 1, b';') {
         return token(TokenKind::LParen, at + 1);
     }
-    let end = lex_comments::block_end(s, at + 2);
-    if end == 0 {
-        return None;
-    }
+    let end = lex_comments::block_end(s, at + 2)?;
     comment(s, at, end, TokenKind::BlockComment, settings)
 }
 

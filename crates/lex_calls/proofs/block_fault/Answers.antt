@@ -9,5 +9,5 @@ pub returns : goal.returns
 returns c = λ σ.
     let a = c.args in
     let mark = sym c.is_at.ensures ∙ c.if-not-is_at.false in
-    let whole = block_closed σ a.s.now a.at mark c.block_end-end.ensures c.if-end-eq0.false in
+    let whole = block_closed σ a.s.now a.at mark c.in-Some.ensures in
     subst (λ (x : Answer). Faults a.at x c.comment_fault.result) (sym whole) (c.comment_fault.ensures σ kind.BlockComment)
