@@ -18,7 +18,9 @@ pub fn version() -> u32
     VERSION
 }
 
-// A refusal: 2, its number, its place and its values.
+// A refusal: 2, its number, its place and its values. What has one answers it in an arm of its own: a helper that took
+// the answer and a closure for the rest would save no line, and leave each promise to a proof by cases (tried), which
+// the check needs no help with where the arms stand in one `match`.
 pub fn refused_words(r: Refusal, place: usize) -> [u64; 5]
     ensures { result ≡ refused_words r place }
 {
