@@ -43,9 +43,9 @@ RECORD_IMPORTS = "use Rattle.wat.specs.Division.{records}\n"
 READER_IMPORTS = """\
 use Rattle.wat.specs.declared.Refusal.TheVariants.{Lexical}
 use Rattle.wat_values.specs.declared.FloatPart.TheVariants as the
-use Rattle.wat_values.specs.declared.Reading.TheVariants as reading
+use Rattle.wat_values.specs.Answered as reading
 use Rattle.wat_values.specs.declared.NameKind.TheVariants as whose
-use Rattle.wat_values.specs.declared.NameReading.TheVariants as named
+use Rattle.wat_values.specs.Named as named
 use Rattle.wat.specs.Numbers.{Digits, Signed, Fraction, Exponent}
 use Rattle.wat_values.specs.Values.{Reader, Sigil, Takes, part, copy, absent, refused, Name, Reads}
 use Rattle.wat_values.specs.Reading.{found, needs, Read, ReadsName}

@@ -6,11 +6,14 @@ use mathlib.Core.List.{List}
 use native.Mathlib.Omega.{arith}
 use lib.ListN.{get_or, take}
 use Rattle.std.specs.Prelude.{Some, None, Ok, Err}
-use Rattle.wat.specs.declared.Refusal.{Refusal}
-use Rattle.wat_values.specs.declared.{NameKind.NameKind, NameReading.NameReading}
+use Rattle.wat.specs.declared.{Refusal.Refusal, Refused.Refused as Reason}
+use Rattle.wat_values.specs.declared.NameKind.{NameKind}
+use Rattle.wat_values.specs.Named.{NameReading}
+use Rattle.wat_values.specs.Named as name
 use Rattle.wat_values.specs.IntegerValue.{IntegerValue, Refused, OutOfRange, Word}
 use Rattle.wat_values.specs.declared.NameKind.TheVariants.{Id, Annotation}
-use Rattle.wat_values.specs.declared.NameReading.TheVariants as name
+use Rattle.wat_values.specs.declared.{Name.Name, Part.Part}
+use Rattle.wat_values.specs.declared.Part.TheVariants as part
 use Rattle.c_words.specs.Words.{refused_words}
 use Rattle.c_words.proofs.RefusalLaws.{refused_words_tell, refused_number}
 use Rattle.c_read_words.specs.Words.{integer_words, kind_word, name_words}
@@ -41,15 +44,27 @@ kind_word_tells Id Annotation e = absurd (omega (arith, e))
 kind_word_tells Annotation Id e = absurd (omega (arith, e))
 kind_word_tells Annotation Annotation e = refl
 
+-- a refusal has not the words of a name
+refused_no_name : (a : Reason) (n : Name) → name_words (Err a) ≡ name_words (Ok n) → ⊥
+refused_no_name a n e = go n.part e
+  where
+    go : (p : Part) → name_words (Err a) ≡ name_words (Ok (record { kind = n.kind; part = p })) → ⊥
+    go (part.Text i l) e = omega (arith, ap (word 0) e)
+    go (part.Buffer i l) e = omega (arith, ap (word 0) e)
+
 pub name_words_tell : (a b : NameReading) → name_words a ≡ name_words b → a ≡ b
-name_words_tell (name.Refused r p) (name.Refused q o) e =
-    let z = refused_words_tell r q p o (ap (take 5) e) in cc (z.0, z.1)
-name_words_tell (name.Refused r p) (name.Text m j k) e = absurd (omega (arith, ap (word 0) e))
-name_words_tell (name.Refused r p) (name.Buffer m j k) e = absurd (omega (arith, ap (word 0) e))
-name_words_tell (name.Text n i l) (name.Refused q o) e = absurd (omega (arith, ap (word 0) e))
-name_words_tell (name.Text n i l) (name.Text m j k) e = cc (kind_word_tells n m (ap (word 5) e), ap (word 1) e)
-name_words_tell (name.Text n i l) (name.Buffer m j k) e = absurd (omega (arith, ap (word 0) e))
-name_words_tell (name.Buffer n i l) (name.Refused q o) e = absurd (omega (arith, ap (word 0) e))
-name_words_tell (name.Buffer n i l) (name.Text m j k) e = absurd (omega (arith, ap (word 0) e))
-name_words_tell (name.Buffer n i l) (name.Buffer m j k) e =
-    cc (kind_word_tells n m (ap (word 5) e), ap (word 1) e)
+name_words_tell (Err a) (Err b) e =
+    let z = refused_words_tell a.refusal b.refusal a.place b.place (ap (take 5) e) in
+    let same : name.Refused a.refusal a.place ≡ name.Refused b.refusal b.place = cc (z.0, z.1) in
+    same
+name_words_tell (Err a) (Ok m) e = absurd (refused_no_name a m e)
+name_words_tell (Ok n) (Err b) e = absurd (refused_no_name b n (sym e))
+name_words_tell (Ok n) (Ok m) e = go n.kind m.kind n.part m.part e
+  where
+    go : (h k : NameKind) (p q : Part)
+        → name_words (Ok (record { kind = h; part = p })) ≡ name_words (Ok (record { kind = k; part = q }))
+        → ◌≡◌ {A = NameReading} (Ok (record { kind = h; part = p })) (Ok (record { kind = k; part = q }))
+    go h k (part.Text i l) (part.Text j o) e = cc (kind_word_tells h k (ap (word 5) e), ap (word 1) e, ap (word 2) e)
+    go h k (part.Text i l) (part.Buffer j o) e = absurd (omega (arith, ap (word 0) e))
+    go h k (part.Buffer i l) (part.Text j o) e = absurd (omega (arith, ap (word 0) e))
+    go h k (part.Buffer i l) (part.Buffer j o) e = cc (kind_word_tells h k (ap (word 5) e), ap (word 1) e, ap (word 2) e)

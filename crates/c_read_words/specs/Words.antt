@@ -1,14 +1,14 @@
 -- The answers of the readers and of the messages as words, for C: the layout that include/thallusweb.h explains.
 use Rattle.std.specs.Prelude.{ℕ, List, [], ◌∷◌, ◌++◌, Some, None, Result, Ok, Err}
 use Rattle.wat.specs.declared.{Sign.Sign, Refusal.Refusal}
-use Rattle.wat_values.specs.declared.{Reading.Reading, NameKind.NameKind, NameReading.NameReading}
+use Rattle.wat_values.specs.declared.NameKind.{NameKind}
+use Rattle.wat_values.specs.{Answered.Reading, Named.NameReading}
 use Rattle.wat_values.specs.declared.{IntegerSign.IntegerSign, FloatSign.FloatSign}
 use Rattle.wat_values.specs.IntegerValue.{IntegerValue}
 use Rattle.wat.specs.declared.Sign.TheVariants.{Unsigned, Plus, Minus}
 use Rattle.wat.specs.declared.TokenKind.TheVariants as kind
-use Rattle.wat_values.specs.declared.Reading.TheVariants as reading
+use Rattle.wat_values.specs.declared.Part.TheVariants as part
 use Rattle.wat_values.specs.declared.NameKind.TheVariants as name_of
-use Rattle.wat_values.specs.declared.NameReading.TheVariants as name
 use Rattle.wat_values.specs.declared.IntegerSign.TheVariants as integer
 use Rattle.wat_values.specs.declared.FloatSign.TheVariants as float
 use Rattle.wat.specs.Cases.{flag, kind_number}
@@ -18,10 +18,10 @@ use Rattle.c_words.specs.Words.{refused_words}
 
 -- what a reader answers of a token: 0 absent, 1 a part of the text, 2 a refusal, 3 a part of the buffer
 abbrev pub reading_words : Reading → List ℕ
-reading_words reading.Absent = 0 ∷ 0 ∷ 0 ∷ 0 ∷ 0 ∷ []
-reading_words (reading.Text start len) = 1 ∷ start ∷ len ∷ 0 ∷ 0 ∷ []
-reading_words (reading.Refused r p) = refused_words r p
-reading_words (reading.Buffer start len) = 3 ∷ start ∷ len ∷ 0 ∷ 0 ∷ []
+reading_words (Ok None) = 0 ∷ 0 ∷ 0 ∷ 0 ∷ 0 ∷ []
+reading_words (Ok (Some (part.Text start len))) = 1 ∷ start ∷ len ∷ 0 ∷ 0 ∷ []
+reading_words (Err e) = refused_words e.refusal e.place
+reading_words (Ok (Some (part.Buffer start len))) = 3 ∷ start ∷ len ∷ 0 ∷ 0 ∷ []
 
 -- the number of the kind of token that a name is of
 abbrev pub kind_word : NameKind → ℕ
@@ -30,9 +30,8 @@ kind_word name_of.Annotation = kind_number kind.Annotation
 
 -- the same of an answer; 0 where it has no name
 abbrev pub name_word : NameReading → ℕ
-name_word (name.Refused r p) = 0
-name_word (name.Text n start len) = kind_word n
-name_word (name.Buffer n start len) = kind_word n
+name_word (Err e) = 0
+name_word (Ok n) = kind_word n.kind
 
 -- what the name call answers of a token: the words of another reader's answer, and whose name it is
 abbrev pub name_words : NameReading → List ℕ

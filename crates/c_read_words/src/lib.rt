@@ -6,22 +6,22 @@ ghost use Rattle.c_read_words.specs.Words.{reading_words, name_words, name_word,
 ghost use Rattle.c_read_words.specs.Words.{integer_sign_words, integer_words, float_sign_words, message_words};
 
 use wat::{Refusal, Refused, Sign};
-use wat_values::{FloatSign, IntegerSign, NameKind, NameReading, Reading};
+use wat_values::{FloatSign, IntegerSign, Name, NameKind, Part};
 
 // What a reader found of a token.
-pub fn reading_words(r: Reading) -> [u64; 5]
+pub fn reading_words(r: Result<Option<Part>, Refused>) -> [u64; 5]
     ensures { result ≡ reading_words r }
 {
     match r {
-        Reading::Absent => [0, 0, 0, 0, 0],
-        Reading::Text { start, len } => [1, start as u64, len as u64, 0, 0],
-        Reading::Refused { refusal, place } => c_words::refused_words(refusal, place),
-        Reading::Buffer { start, len } => [3, start as u64, len as u64, 0, 0],
+        Ok(None) => [0, 0, 0, 0, 0],
+        Ok(Some(Part::Text { start, len })) => [1, start as u64, len as u64, 0, 0],
+        Err(e) => c_words::refused_words(e.refusal, e.place),
+        Ok(Some(Part::Buffer { start, len })) => [3, start as u64, len as u64, 0, 0],
     }
 }
 
 // What the reader of names found: the words of another reader's answer, and whose name it is.
-pub fn name_words(n: NameReading) -> [u64; 6]
+pub fn name_words(n: Result<Name, Refused>) -> [u64; 6]
     ensures { result ≡ name_words n }
 {
     let w = reading_words(read_second::reading_of(n));
@@ -29,24 +29,12 @@ pub fn name_words(n: NameReading) -> [u64; 6]
 }
 
 // The number of the kind of token that a name is of; 0 where none is answered.
-fn name_word(n: NameReading) -> u64
+fn name_word(n: Result<Name, Refused>) -> u64
     ensures { result ≡ name_word n }
 {
     match n {
-        NameReading::Text {
-            kind,
-            start: _,
-            len: _,
-        } => kind_word(kind),
-        NameReading::Buffer {
-            kind,
-            start: _,
-            len: _,
-        } => kind_word(kind),
-        NameReading::Refused {
-            refusal: _,
-            place: _,
-        } => 0,
+        Ok(name) => kind_word(name.kind),
+        Err(_) => 0,
     }
 }
 

@@ -4,11 +4,12 @@ use mathlib.Core.Path.{◌≡◌, ap}
 use mathlib.Core.List.{List}
 use lib.ListN.{take, drop}
 use Rattle.wat.specs.declared.{Token.Token, Refusal.Refusal}
-use Rattle.wat_values.specs.declared.{Reading.Reading, NameReading.NameReading, IntegerSign.IntegerSign}
+use Rattle.wat_values.specs.declared.IntegerSign.{IntegerSign}
+use Rattle.wat_values.specs.{Answered.Reading, Named.NameReading}
 use Rattle.wat_values.specs.declared.FloatSign.{FloatSign}
 use Rattle.wat_values.specs.IntegerValue.{IntegerValue}
-use Rattle.wat_values.specs.declared.Reading.TheVariants as reading
-use Rattle.wat_values.specs.declared.NameReading.TheVariants as name
+use Rattle.wat_values.specs.Answered as reading
+use Rattle.wat_values.specs.Named as name
 use Rattle.wat_values.specs.declared.IntegerSign.TheVariants as integer
 use Rattle.wat_values.specs.declared.FloatSign.TheVariants as float
 use Rattle.wat_values.specs.IntegerValue as value

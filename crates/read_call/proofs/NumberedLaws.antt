@@ -4,12 +4,14 @@ use mathlib.Core.Path.{◌≡◌, refl, ap, ◌∙◌, subst}
 use mathlib.Core.List.{List, [], ◌∷◌}
 use mathlib.Core.Option.{Option, none, some}
 use native.Mathlib.Omega.{arith}
-use Rattle.wat.specs.declared.Token.{Token}
-use Rattle.wat_values.specs.declared.Reading.{Reading}
+use Rattle.wat.specs.declared.{Token.Token, Refused.Refused}
+use Rattle.wat_values.specs.Answered.{Reading}
+use Rattle.wat_values.specs.Answered as reading
 use Rattle.wat_values.specs.declared.FloatPart.{FloatPart}
 use Rattle.wat_values.specs.declared.FloatPart.TheVariants as the
 use Rattle.wat_values.specs.Values.{Reader, Takes, Reads}
 use Rattle.wat_values.specs.Reading.{Handed, Read}
+use Rattle.read_token.specs.Here.{Misses}
 use Rattle.read_call.specs.declared.Reader.{Reader as Named}
 use Rattle.read_call.specs.declared.Reader.TheVariants as named
 use Rattle.read_call.specs.ByNumber.{readers, nth, reader_of, ReadBy}
@@ -88,4 +90,8 @@ module _ {n : ℕ} {text buffer : List ℕ} {token : Token} {a : Reading} {b : L
   pub by_float : {p : FloatPart} → k ≡ named.Float p → Read (Reader.float p) text token buffer a b → ReadBy n text token buffer a b
   by_float q r = ReadBy.by (e ∙ ap (λ (k : Named). some (reader_of k)) q) r
 
-pub ruleset readers_by = (by_source, by_string, by_digits, by_float, ReadBy.nobody, ReadBy.missing)
+pub by_none : {n : ℕ} {text buffer : List ℕ} {token : Token} {r : Refused} → nth readers n ≡ none → Misses text token r
+    → ReadBy n text token buffer (reading.Refused r.refusal r.place) buffer
+by_none e m = ReadBy.missing e m
+
+pub ruleset readers_by = (by_source, by_string, by_digits, by_float, by_none, ReadBy.nobody)

@@ -4,7 +4,7 @@ use mathlib.Core.Path.{◌≡◌, refl, sym, ◌∙◌, subst}
 use mathlib.Core.List.{List}
 use mathlib.Core.Option.{Option, none, some}
 use Rattle.wat.specs.declared.{Token.Token, Refusal.Refusal}
-use Rattle.wat_values.specs.declared.Reading.{Reading}
+use Rattle.wat_values.specs.Answered.{Reading}
 use Rattle.wat_values.specs.Reading.{Read}
 use Rattle.wat_values.specs.Values.{Reader}
 use Rattle.wat.proofs.Basics.{differ}

@@ -2,9 +2,9 @@
 use Rattle.std.specs.Prelude.{ℕ, zero, suc, ◌≡◌, List, [], ◌∷◌, Result, MatchResult}
 use Rattle.std.proofs.Math.Option.{Option, none, some}
 use Rattle.wat.specs.declared.{Token.Token, Refusal.Refusal}
-use Rattle.wat_values.specs.declared.Reading.{Reading}
+use Rattle.wat_values.specs.Answered.{Reading}
 use Rattle.wat.specs.declared.Refusal.TheVariants.{NotThatToken, NotThatKind}
-use Rattle.wat_values.specs.declared.Reading.TheVariants as reading
+use Rattle.wat_values.specs.Answered as reading
 use Rattle.wat_values.specs.declared.FloatPart.TheVariants as the
 use Rattle.read_call.specs.declared.{Reader.Reader as Named, NoReader.NoReader}
 use Rattle.read_call.specs.declared.Reader.TheVariants as named

@@ -7,7 +7,7 @@ ghost use Rattle.read_call.specs.ByNumber.{Numbered, ReadBy};
 
 use lex_classes::Table;
 use wat::{Refusal, Refused, Token};
-use wat_values::{FloatPart, NO_PLACE, Reading};
+use wat_values::{FloatPart, NO_PLACE, Part};
 
 // The readers that have a number.
 #[derive(Clone, Copy)]
@@ -44,18 +44,21 @@ impl TryFrom<u64> for Reader {
 
 // The first call of the reader that has the number; 31 for a number that no reader has.
 #[tactic(auto, using(crate::proofs::NumberedLaws::readers_by))]
-pub fn read(text: &[u8], reader: u64, token: Token, buffer: &mut [u8]) -> Reading
+pub fn read(
+    text: &[u8],
+    reader: u64,
+    token: Token,
+    buffer: &mut [u8],
+) -> Result<Option<Part>, Refused>
     ensures { ReadBy reader text.now token buffer.old result buffer.new }
 {
     let Ok(reader) = Reader::try_from(reader) else {
         let t = Table::new();
-        return match read_token::present(text, token, &t) {
-            Ok(()) => Reading::Refused {
-                refusal: Refusal::NotThatKind,
-                place: NO_PLACE,
-            },
-            Err(Refused { refusal, place }) => Reading::Refused { refusal, place },
-        };
+        read_token::present(text, token, &t)?;
+        return Err(Refused {
+            refusal: Refusal::NotThatKind,
+            place: NO_PLACE,
+        });
     };
     match reader {
         Reader::Src => read_text::src(text, token),

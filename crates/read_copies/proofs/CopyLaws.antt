@@ -11,8 +11,7 @@ use lib.ListN.{length, get_or, drop, set, length-append}
 use lib.Seq.{slice, append_snoc, length-slice}
 use borrow.Author.Tests.{eq-eqb, ne_eqb}
 use Rattle.wat.specs.declared.Sign.{Sign}
-use Rattle.wat_values.specs.declared.Reading.{Reading}
-use Rattle.wat_values.specs.declared.Reading.TheVariants.{Text, Buffer}
+use Rattle.wat_values.specs.Answered.{Reading, Text, Buffer}
 use Rattle.wat.specs.Bytes.{byte, has}
 use Rattle.wat_values.specs.Values.{copy, copy_or_part, bare, kept}
 use Rattle.wat_values.specs.Reading.{Handed}

@@ -1,7 +1,7 @@
 -- What it is to hand over digits and their sign.
 use Rattle.std.specs.Prelude.{ℕ, ◌+◌, ◌≡◌, Bool, false, List, ◌++◌, length}
 use Rattle.wat.specs.declared.{Sign.Sign}
-use Rattle.wat_values.specs.declared.Reading.{Reading}
+use Rattle.wat_values.specs.Answered.{Reading}
 use Rattle.wat_values.specs.Values.{copy_or_part, bare, kept}
 use Rattle.wat_values.specs.Reading.{Handed}
 

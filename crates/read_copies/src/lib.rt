@@ -9,8 +9,8 @@ ghost use Rattle.wat_values.specs.Reading.{Handed};
 ghost use Rattle.buffers.specs.Writing.{Put, Added};
 ghost use Rattle.read_copies.specs.Copying.{HandsDigits};
 
-use wat::{Refusal, Sign};
-use wat_values::{NO_PLACE, Reading};
+use wat::{Refusal, Refused, Sign};
+use wat_values::{NO_PLACE, Part};
 
 // Digits and their sign, copied or in the text, where the sign stands beside them.
 #[tactic(auto, using(crate::proofs::CopyLaws::handing))]
@@ -21,7 +21,7 @@ pub fn hand(
     sign: Sign,
     copied: bool,
     buffer: &mut [u8],
-) -> Reading
+) -> Result<Option<Part>, Refused>
     requires { (from ≤ to) × (to ≤ length text.now) × (length (kept sign) ≤ from) }
     ensures { HandsDigits copied sign from (slice from to text.now) buffer.old result
         buffer.new }
@@ -30,14 +30,20 @@ pub fn hand(
         return copy(text, from, to, sign, buffer);
     }
     let start = from - kept(sign).len();
-    Reading::Text {
+    Ok(Some(Part::Text {
         start,
         len: to - start,
-    }
+    }))
 }
 
 // Digits and their sign in the buffer, if it has the room.
-fn copy(text: &[u8], from: usize, to: usize, sign: Sign, buffer: &mut [u8]) -> Reading
+fn copy(
+    text: &[u8],
+    from: usize,
+    to: usize,
+    sign: Sign,
+    buffer: &mut [u8],
+) -> Result<Option<Part>, Refused>
     requires { (from ≤ to) × (to ≤ length text.now) × (length (kept sign) ≤ from) }
     ensures { (o : ℕ)
         → Handed o (copy_of (kept sign ++ bare (slice from to text.now))) buffer.old result
@@ -46,14 +52,14 @@ fn copy(text: &[u8], from: usize, to: usize, sign: Sign, buffer: &mut [u8]) -> R
     let first = kept(sign);
     let len = first.len() + bare_len(text, from, to);
     if buffer.len() < len {
-        return Reading::Refused {
+        return Err(Refused {
             refusal: Refusal::BufferTooShort,
             place: NO_PLACE,
-        };
+        });
     }
     let next = put_first(buffer, first);
     bare_into(text, from, to, buffer, next);
-    Reading::Buffer { start: 0, len }
+    Ok(Some(Part::Buffer { start: 0, len }))
 }
 
 // Writes bytes at the front of the buffer; returns where they end. By `buffers::append` the sign would be a call of

@@ -5,10 +5,11 @@ use mathlib.Core.Bool.{Bool}
 use mathlib.Core.List.{List}
 use native.Mathlib.Omega.{arith}
 use Rattle.wat.specs.declared.{IntegerKind.IntegerKind, FloatKind.FloatKind, TokenKind.TokenKind, Token.Token, Refused.Refused}
-use Rattle.wat_values.specs.declared.{FloatPart.FloatPart, Reading.Reading}
+use Rattle.wat_values.specs.declared.FloatPart.{FloatPart}
+use Rattle.wat_values.specs.Answered.{Reading}
 use Rattle.wat.specs.declared.Refusal.TheVariants.{NotThatKind}
 use Rattle.wat.specs.declared.TokenKind.TheVariants as kind
-use Rattle.wat_values.specs.declared.Reading.TheVariants as reading
+use Rattle.wat_values.specs.Answered as reading
 use Rattle.wat.specs.declared.FloatKind.TheVariants as number
 use Rattle.wat_values.specs.declared.FloatSign.TheVariants as float
 use Rattle.wat.specs.Tokens.{Tok}

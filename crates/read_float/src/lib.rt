@@ -9,21 +9,25 @@ ghost use Rattle.wat_values.specs.Reading.{Read, ReadsNegative};
 
 use lex_classes::Table;
 use wat::{FloatKind, NumberKind, Refusal, Refused, Token};
-use wat_values::{FloatPart, FloatSign, NO_PLACE, Reading};
+use wat_values::{FloatPart, FloatSign, NO_PLACE, Part};
 
 // A part of a float, absent where its kind lacks it.
 #[tactic(auto, using(crate::proofs::ReadLaws::parts))]
-pub fn part(text: &[u8], token: Token, which: FloatPart, buffer: &mut [u8]) -> Reading
+pub fn part(
+    text: &[u8],
+    token: Token,
+    which: FloatPart,
+    buffer: &mut [u8],
+) -> Result<Option<Part>, Refused>
     ensures { Read (float which) text.now token buffer.old result buffer.new }
 {
     let t = Table::new();
-    match read_token::number_kind(text, token, &t) {
-        Err(Refused { refusal, place }) => Reading::Refused { refusal, place },
-        Ok(NumberKind::Integer(_)) => Reading::Refused {
+    match read_token::number_kind(text, token, &t)? {
+        NumberKind::Integer(_) => Err(Refused {
             refusal: Refusal::NotThatKind,
             place: NO_PLACE,
-        },
-        Ok(NumberKind::Float(kind)) => {
+        }),
+        NumberKind::Float(kind) => {
             let at = token.offset;
             let end = at + token.len as usize;
             read_parts::float(text, at, end, kind, which, buffer, &t)
@@ -32,28 +36,28 @@ pub fn part(text: &[u8], token: Token, which: FloatPart, buffer: &mut [u8]) -> R
 }
 
 // The digits before a float's point, with a `-`.
-pub fn integral(text: &[u8], token: Token, buffer: &mut [u8]) -> Reading
+pub fn integral(text: &[u8], token: Token, buffer: &mut [u8]) -> Result<Option<Part>, Refused>
     ensures { Read (float Integral) text.now token buffer.old result buffer.new }
 {
     part(text, token, FloatPart::Integral, buffer)
 }
 
 // The digits after a float's point, if there are any.
-pub fn fraction(text: &[u8], token: Token, buffer: &mut [u8]) -> Reading
+pub fn fraction(text: &[u8], token: Token, buffer: &mut [u8]) -> Result<Option<Part>, Refused>
     ensures { Read (float Fraction) text.now token buffer.old result buffer.new }
 {
     part(text, token, FloatPart::Fraction, buffer)
 }
 
 // The digits of a float's exponent, with a `-`, if there is one.
-pub fn exponent(text: &[u8], token: Token, buffer: &mut [u8]) -> Reading
+pub fn exponent(text: &[u8], token: Token, buffer: &mut [u8]) -> Result<Option<Part>, Refused>
     ensures { Read (float Exponent) text.now token buffer.old result buffer.new }
 {
     part(text, token, FloatPart::Exponent, buffer)
 }
 
 // The digits after `nan:0x`.
-pub fn payload(text: &[u8], token: Token, buffer: &mut [u8]) -> Reading
+pub fn payload(text: &[u8], token: Token, buffer: &mut [u8]) -> Result<Option<Part>, Refused>
     ensures { Read (float Payload) text.now token buffer.old result buffer.new }
 {
     part(text, token, FloatPart::Payload, buffer)

@@ -4,10 +4,10 @@ use mathlib.Core.Path.{◌≡◌, refl}
 use mathlib.Core.List.{List}
 use native.Mathlib.Omega.{arith}
 use Rattle.wat.specs.declared.{IntegerKind.IntegerKind, FloatKind.FloatKind, TokenKind.TokenKind, Token.Token, Refused.Refused}
-use Rattle.wat_values.specs.declared.Reading.{Reading}
+use Rattle.wat_values.specs.Answered.{Reading}
 use Rattle.wat.specs.declared.Refusal.TheVariants.{NotThatKind}
 use Rattle.wat.specs.declared.TokenKind.TheVariants as kind
-use Rattle.wat_values.specs.declared.Reading.TheVariants as reading
+use Rattle.wat_values.specs.Answered as reading
 use Rattle.wat_values.specs.declared.IntegerSign.TheVariants as integer
 use Rattle.wat.specs.Numbers.{IsFloat}
 use Rattle.wat_values.specs.Values.{Reader, Takes, Reads}

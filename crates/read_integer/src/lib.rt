@@ -8,21 +8,20 @@ ghost use Rattle.wat_values.specs.Reading.{Read, ReadsSign};
 
 use lex_classes::Table;
 use wat::{NumberKind, Refusal, Refused, Token};
-use wat_values::{IntegerSign, NO_PLACE, Reading};
+use wat_values::{IntegerSign, NO_PLACE, Part};
 
 // An integer's digits, with a `-`.
 #[tactic(auto, using(crate::proofs::ReadLaws::digits))]
-pub fn integer(text: &[u8], token: Token, buffer: &mut [u8]) -> Reading
+pub fn integer(text: &[u8], token: Token, buffer: &mut [u8]) -> Result<Option<Part>, Refused>
     ensures { Read Reader.digits text.now token buffer.old result buffer.new }
 {
     let t = Table::new();
-    match read_token::number_kind(text, token, &t) {
-        Err(Refused { refusal, place }) => Reading::Refused { refusal, place },
-        Ok(NumberKind::Float(_)) => Reading::Refused {
+    match read_token::number_kind(text, token, &t)? {
+        NumberKind::Float(_) => Err(Refused {
             refusal: Refusal::NotThatKind,
             place: NO_PLACE,
-        },
-        Ok(NumberKind::Integer(kind)) => {
+        }),
+        NumberKind::Integer(kind) => {
             let at = token.offset;
             let end = at + token.len as usize;
             let hex = kind.hex;

@@ -7,7 +7,7 @@ use native.Mathlib.Omega.{arith}
 use lib.ListN.{length, drop}
 use Rattle.wat.specs.declared.LexError.{LexError}
 use Rattle.wat.specs.declared.Refusal.TheVariants.{Lexical, BufferTooShort}
-use Rattle.wat_values.specs.declared.Reading.TheVariants.{Refused, Text, Buffer}
+use Rattle.wat_values.specs.Answered.{Refused, Text, Buffer}
 use Rattle.wat_values.specs.Values.{part, refused, copy_or_part, copied}
 use Rattle.wat_values.specs.Reading.{no_place, Handed}
 

@@ -9,9 +9,10 @@ use Rattle.wat.specs.declared.LexError.{LexError}
 use Rattle.wat.specs.declared.LexError.TheVariants.{InvalidUtf8Id}
 use Rattle.wat.specs.declared.Refusal.{Refusal}
 use Rattle.wat.specs.declared.Refusal.TheVariants.{Lexical, BufferTooShort}
-use Rattle.wat_values.specs.declared.{Reading.Reading, NameKind.NameKind, NameReading.NameReading}
-use Rattle.wat_values.specs.declared.Reading.TheVariants as reading
-use Rattle.wat_values.specs.declared.NameReading.TheVariants.{Refused, Text, Buffer}
+use Rattle.wat_values.specs.declared.NameKind.{NameKind}
+use Rattle.wat_values.specs.{Answered.Reading, Named.NameReading}
+use Rattle.wat_values.specs.Answered as reading
+use Rattle.wat_values.specs.Named.{Refused, Text, Buffer}
 use Rattle.std.specs.Prelude.{Ok, Err}
 use Rattle.wat.specs.Checked.{Checked, Bad}
 use Rattle.wat.specs.Bytes.{byte, has, Each}

@@ -9,7 +9,7 @@ use native.Mathlib.Nat.{add-zero, zero-add}
 use lib.ListN.{length, get_or, take, drop, length-drop, take-append-drop}
 use lib.Seq.{slice, get_or-take, get_or-drop, drop-cons, drop_at, length-take-le, take-add}
 use Rattle.wat.specs.declared.Refusal.TheVariants.{BufferTooShort}
-use Rattle.wat_values.specs.declared.Reading.TheVariants.{Refused, Text, Buffer}
+use Rattle.wat_values.specs.Answered.{Refused, Text, Buffer}
 use Rattle.wat.specs.Bytes.{byte, has}
 use Rattle.wat.specs.declared.Settings.{Settings}
 use Rattle.wat.specs.Settings.{lenient}

@@ -1,8 +1,9 @@
 -- What is handed over of a string at a place, and of a name after a token's first byte.
 use Rattle.std.specs.Prelude.{ℕ, ◌+◌, ◌-◌, ◌≤◌, ◌<◌, ◌≡◌, true, false, List, ◌∷◌, ◌++◌, length, take, drop}
 use Rattle.wat.specs.declared.Refusal.TheVariants.{BufferTooShort}
-use Rattle.wat_values.specs.declared.{Reading.Reading, NameKind.NameKind, NameReading.NameReading}
-use Rattle.wat_values.specs.declared.Reading.TheVariants.{Refused, Text, Buffer}
+use Rattle.wat_values.specs.declared.NameKind.{NameKind}
+use Rattle.wat_values.specs.{Answered.Reading, Named.NameReading}
+use Rattle.wat_values.specs.Answered.{Refused, Text, Buffer}
 use Rattle.wat.specs.Bytes.{byte, has}
 use Rattle.wat.specs.Settings.{lenient}
 use Rattle.wat.specs.Strings.{Str}

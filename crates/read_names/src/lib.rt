@@ -7,31 +7,37 @@ ghost use Rattle.wat_values.specs.Values.{empty_name};
 ghost use Rattle.read_names.specs.Names.{Quoted, Quotes, tail, Sigiled, NameHanded};
 
 use lex_classes::Table;
-use wat::{LexError, Refusal};
-use wat_values::{NO_PLACE, NameKind, NameReading, Reading};
+use wat::{LexError, Refusal, Refused};
+use wat_values::{NO_PLACE, Name, NameKind, Part};
 
 // The string of `len` bytes at a place: what stands between its quotes, or a copy if it has an escape. The copy is
 // measured first, so that 32 changes no byte.
 #[tactic(auto, using(crate::proofs::QuotedLaws::quotes))]
-pub fn quoted(text: &[u8], at: usize, len: usize, buffer: &mut [u8], t: &Table) -> Reading
+pub fn quoted(
+    text: &[u8],
+    at: usize,
+    len: usize,
+    buffer: &mut [u8],
+    t: &Table,
+) -> Result<Option<Part>, Refused>
     requires quoted { Quoted text.now at len }
     ensures { Quotes (take len (drop at text.now)) at buffer.old result buffer.new }
 {
     if !lex_strings::has_escape(text, at, at + len) {
-        return Reading::Text {
+        return Ok(Some(Part::Text {
             start: at + 1,
             len: len - 2,
-        };
+        }));
     }
     let n = lex_strings::decoded_len(text, at + 1, t);
     if buffer.len() < n {
-        return Reading::Refused {
+        return Err(Refused {
             refusal: Refusal::BufferTooShort,
             place: NO_PLACE,
-        };
+        });
     }
     lex_strings::decode_into(text, at + 1, buffer, t);
-    Reading::Buffer { start: 0, len: n }
+    Ok(Some(Part::Buffer { start: 0, len: n }))
 }
 
 // The error of a name that is empty.
@@ -54,7 +60,7 @@ pub fn name(
     kind: NameKind,
     buffer: &mut [u8],
     t: &Table,
-) -> NameReading
+) -> Result<Name, Refused>
     requires sigiled { Sigiled kind text.now offset len }
     ensures { NameHanded kind (tail text.now offset len) offset buffer.old result
         buffer.new }
@@ -62,53 +68,49 @@ pub fn name(
     let at = offset + 1;
     let rest = len - 1;
     if rest == 0 {
-        return NameReading::Refused {
+        return Err(Refused {
             refusal: Refusal::Lexical(empty_name(kind)),
             place: offset,
-        };
+        });
     }
     if text[at] != b'"' {
-        return NameReading::Text {
-            kind,
+        let part = Part::Text {
             start: at,
             len: rest,
         };
+        return Ok(Name { kind, part });
     }
     match quoted(text, at, rest, buffer, t) {
-        Reading::Text { start, len: n } => {
+        Ok(Some(Part::Text { start, len: n })) => {
             if n == 0 {
-                return NameReading::Refused {
+                return Err(Refused {
                     refusal: Refusal::Lexical(empty_name(kind)),
                     place: offset,
-                };
+                });
             }
-            NameReading::Text {
-                kind,
-                start,
-                len: n,
-            }
+            let part = Part::Text { start, len: n };
+            Ok(Name { kind, part })
         }
-        Reading::Buffer { start: _, len: n } => {
+        Ok(Some(Part::Buffer { start: _, len: n })) => {
             let copy = &buffer[0..n];
             match utf8_check::check(copy) {
-                Ok(()) => NameReading::Buffer {
-                    kind,
-                    start: 0,
-                    len: n,
-                },
-                Err(e) => NameReading::Refused {
+                Ok(()) => {
+                    let part = Part::Buffer { start: 0, len: n };
+                    Ok(Name { kind, part })
+                }
+                Err(e) => Err(Refused {
                     refusal: Refusal::Lexical(LexError::InvalidUtf8Id {
                         valid_up_to: e.valid_up_to,
                         error_len: e.error_len,
                     }),
                     place: offset,
-                },
+                }),
             }
         }
         // A string is never absent, and refused by 32 alone.
-        _ => NameReading::Refused {
+        _ => Err(Refused {
             refusal: Refusal::BufferTooShort,
             place: NO_PLACE,
-        },
+        }),
     }
 }

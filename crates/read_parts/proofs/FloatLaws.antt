@@ -7,7 +7,8 @@ use lib.Seq.{slice}
 use Rattle.wat.specs.declared.FloatKind.{FloatKind}
 use Rattle.wat.specs.declared.FloatKind.TheVariants.{Inf, Nan, NanVal, Normal}
 use Rattle.wat.specs.declared.TokenKind.TheVariants as kind
-use Rattle.wat_values.specs.declared.{FloatPart.FloatPart, Reading.Reading, Reading.TheVariants.Absent}
+use Rattle.wat_values.specs.declared.FloatPart.{FloatPart}
+use Rattle.wat_values.specs.Answered.{Reading, Absent}
 use Rattle.wat_values.specs.declared.FloatPart.TheVariants as the
 use Rattle.wat.specs.Bytes.{byte, has}
 use Rattle.wat.specs.Numbers.{IsFloat}

@@ -10,7 +10,7 @@ use lib.ListN.{length, take, drop, length-append}
 use lib.Seq.{slice, length-slice, drop-drop}
 use Rattle.std.specs.Prelude.{Option, Some, None, IfSome}
 use Rattle.wat.specs.declared.{Sign.Sign}
-use Rattle.wat_values.specs.declared.{Reading.Reading, Reading.TheVariants.Absent}
+use Rattle.wat_values.specs.Answered.{Reading, Absent}
 use Rattle.wat.specs.declared.Sign.TheVariants.{Unsigned}
 use Rattle.wat.specs.declared.FloatKind.TheVariants.{Normal}
 use Rattle.wat.specs.declared.TokenKind.TheVariants as kind

@@ -2,7 +2,7 @@
 use Rattle.std.specs.Prelude.{ℕ, ◌+◌, ◌≤◌, ◌≡◌, Bool, true, ◌||◌, List, ◌++◌, length, Option, Some, None}
 use Rattle.std.proofs.Math.Seq.{slice}
 use Rattle.wat.specs.declared.{Sign.Sign, TokenKind.TokenKind}
-use Rattle.wat_values.specs.declared.Reading.{Reading}
+use Rattle.wat_values.specs.Answered.{Reading}
 use Rattle.wat.specs.Bytes.{byte, has}
 use Rattle.wat_values.specs.Reading.{Handed}
 use Rattle.lex_numbers.specs.declared.Skipped.{Skipped}

@@ -15,8 +15,8 @@ ghost use Rattle.read_parts.specs.Handing.{At, Payload, Leaves, Hands, HandsWhol
 
 use lex_classes::Table;
 use lex_numbers::Skipped;
-use wat::{FloatKind, Sign};
-use wat_values::{FloatPart, Reading};
+use wat::{FloatKind, Refused, Sign};
+use wat_values::{FloatPart, Part};
 
 // A part of a float of a kind; a part that the kind lacks is absent.
 #[tactic(auto, using(crate::proofs::FloatLaws::floats))]
@@ -28,26 +28,26 @@ pub fn float(
     part: FloatPart,
     buffer: &mut [u8],
     t: &Table,
-) -> Reading
+) -> Result<Option<Part>, Refused>
     requires at { At (Tok (Float kind)) text.now at end }
     ensures { Hands (Reader.float part) (Float kind) text.now at end buffer.old result
         buffer.new }
 {
     match kind {
-        FloatKind::Inf { negative: _ } => Reading::Absent,
-        FloatKind::Nan { negative: _ } => Reading::Absent,
+        FloatKind::Inf { negative: _ } => Ok(None),
+        FloatKind::Nan { negative: _ } => Ok(None),
         FloatKind::NanVal {
             negative: _,
             underscores,
         } => match part {
             FloatPart::Payload => payload(text, at, end, underscores, buffer),
-            _ => Reading::Absent,
+            _ => Ok(None),
         },
         FloatKind::Normal { underscores, hex } => match part {
             FloatPart::Integral => whole(text, at, end, hex, underscores, buffer, t),
             FloatPart::Fraction => fraction(text, at, end, hex, underscores, buffer, t),
             FloatPart::Exponent => exponent(text, at, end, hex, underscores, buffer, t),
-            FloatPart::Payload => Reading::Absent,
+            FloatPart::Payload => Ok(None),
         },
     }
 }
@@ -61,7 +61,7 @@ pub fn whole(
     underscores: bool,
     buffer: &mut [u8],
     t: &Table,
-) -> Reading
+) -> Result<Option<Part>, Refused>
     requires at { At (IsFloat hex) text.now at end }
     ensures { HandsWhole hex underscores text.now at end buffer.old result
         buffer.new }
@@ -82,7 +82,7 @@ fn fraction(
     underscores: bool,
     buffer: &mut [u8],
     t: &Table,
-) -> Reading
+) -> Result<Option<Part>, Refused>
     requires at { At (Tok (Float (Normal underscores hex))) text.now at end }
     ensures { Hands (Reader.float Fraction) (Float (Normal underscores hex)) text.now at end
         buffer.old result buffer.new }
@@ -90,7 +90,7 @@ fn fraction(
     let dot = past_whole(text, at, end, hex, t);
     let to = past_fraction(text, dot, at, end, hex, t);
     if to - dot < 2 {
-        return Reading::Absent;
+        return Ok(None);
     }
     read_copies::hand(text, dot + 1, to, Sign::Unsigned, underscores, buffer)
 }
@@ -104,7 +104,7 @@ fn exponent(
     underscores: bool,
     buffer: &mut [u8],
     t: &Table,
-) -> Reading
+) -> Result<Option<Part>, Refused>
     requires at { At (Tok (Float (Normal underscores hex))) text.now at end }
     ensures { Hands (Reader.float Exponent) (Float (Normal underscores hex)) text.now at end
         buffer.old result buffer.new }
@@ -112,7 +112,7 @@ fn exponent(
     let dot = past_whole(text, at, end, hex, t);
     let mark = past_fraction(text, dot, at, end, hex, t);
     if mark == end {
-        return Reading::Absent;
+        return Ok(None);
     }
     let power = &text[mark + 1..end];
     let sign = lex_numbers::sign_of(power);
@@ -121,7 +121,13 @@ fn exponent(
 }
 
 // The digits after `nan:0x`.
-fn payload(text: &[u8], at: usize, end: usize, underscores: bool, buffer: &mut [u8]) -> Reading
+fn payload(
+    text: &[u8],
+    at: usize,
+    end: usize,
+    underscores: bool,
+    buffer: &mut [u8],
+) -> Result<Option<Part>, Refused>
     requires { At Payload text.now at end }
     ensures { HandsPayload underscores text.now at end buffer.old result
         buffer.new }

@@ -5,8 +5,7 @@ use mathlib.Core.List.{List}
 use native.Mathlib.Omega.{arith}
 use lib.ListN.{take, drop}
 use denote.Ref.{Bor}
-use Rattle.wat_values.specs.declared.Reading.{Reading}
-use Rattle.wat_values.specs.declared.Reading.TheVariants.{Refused, Absent, Text, Buffer}
+use Rattle.wat_values.specs.Answered.{Reading, Refused, Absent, Text, Buffer}
 use Rattle.wat_values.specs.Reading.{Second}
 use Rattle.wat.proofs.Basics.{differ}
 use Rattle.read_second.specs.Parts.{PartRef, PartOf, PartFor}
@@ -39,6 +38,18 @@ module _ {text buffer : Bor (List ℕ)} where
   pub promised : {a b : Reading} {r : Bor (List ℕ)} → a ≡ b → PartFor text buffer b r
       → Second text.now buffer.now a r.now × PartFor text buffer a r
   promised {r = r} e p = let q = subst (λ (x : Reading). PartFor text buffer x r) (sym e) p in (part_second q, q)
+
+  module _ {a : Reading} {r : Bor (List ℕ)} where
+    pub text_part : {start len : ℕ} → a ≡ Text start len → PartOf text start len r
+        → Second text.now buffer.now a r.now × PartFor text buffer a r
+    text_part e p = promised e (PartFor.of_text p)
+
+    pub buffer_part : {start len : ℕ} → a ≡ Buffer start len → PartOf buffer start len r
+        → Second text.now buffer.now a r.now × PartFor text buffer a r
+    buffer_part e p = promised e (PartFor.of_buffer p)
+
+    pub absent_part : a ≡ Absent → PartRef text 0 0 r → Second text.now buffer.now a r.now × PartFor text buffer a r
+    absent_part e p = promised e (PartFor.absent p)
 
 -- ---- no other part
 

@@ -2,8 +2,7 @@
 use Rattle.std.specs.Prelude.{ℕ, ◌+◌, ◌≤◌, ◌<◌, ◌≡◌, List, length, take, drop}
 use Rattle.std.specs.Borrow.{Bor}
 use Rattle.wat.specs.declared.Refusal.{Refusal}
-use Rattle.wat_values.specs.declared.Reading.{Reading}
-use Rattle.wat_values.specs.declared.Reading.TheVariants.{Refused, Absent, Text, Buffer}
+use Rattle.wat_values.specs.Answered.{Reading, Refused, Absent, Text, Buffer}
 
 -- a reference to so many bytes of a slice, from a start on: their address, a block and an offset, and the bytes
 pub record PartRef (s : Bor (List ℕ)) (start len : ℕ) (r : Bor (List ℕ)) : Type 0 where

@@ -10,9 +10,10 @@ use Rattle.wat.specs.declared.TokenKind.{TokenKind}
 use Rattle.wat.specs.declared.TokenKind.TheVariants as kind
 use Rattle.wat.specs.declared.Token.{Token}
 use Rattle.wat.specs.declared.Refused.{Refused}
-use Rattle.wat_values.specs.declared.{Reading.Reading, NameKind.NameKind, NameReading.NameReading}
-use Rattle.wat_values.specs.declared.Reading.TheVariants as reading
-use Rattle.wat_values.specs.declared.NameReading.TheVariants as named
+use Rattle.wat_values.specs.declared.NameKind.{NameKind}
+use Rattle.wat_values.specs.{Answered.Reading, Named.NameReading}
+use Rattle.wat_values.specs.Answered as reading
+use Rattle.wat_values.specs.Named as named
 use Rattle.wat.specs.Settings.{lenient}
 use Rattle.wat.specs.Strings.{Str}
 use Rattle.wat_values.specs.Values.{Reader, Sigil, Takes, Value, Name, Reads}
@@ -21,7 +22,7 @@ use Rattle.wat.proofs.Basics.{differ}
 use Rattle.wat_values.proofs.OneValue.{sigil_one}
 use Rattle.wat_values.proofs.SomeValue as one
 use Rattle.wat_values.proofs.ReadingLaws.{is_token, token_long, named_reads}
-use Rattle.read_token.specs.Here.{Untaken, HereName, Unnamed}
+use Rattle.read_token.specs.Here.{Misses, Untaken, HereName, Unnamed}
 use Rattle.read_names.specs.Names.{Quoted, Quotes, tail, Sigiled, NameHanded}
 use Rattle.read_names.proofs.HandLaws.{handed_part, handed_left, handed_short, handed_copy}
 use Rattle.read_token.proofs.PresentLaws.{there_fits, there_reads}
@@ -30,6 +31,10 @@ pub src_reads : {text : List ℕ} {token : Token} → There text token
     → Read Reader.src text token [] (reading.Text token.offset token.len) []
 src_reads {text} {token} t =
     Read.reads t Reads.itself (handed_part token.offset [] (sym (add-zero token.offset)) (sym (token_long t.lexed)))
+
+pub src_missing : {text : List ℕ} {token : Token} {r : Refused} → Misses text token r
+    → Read Reader.src text token [] (reading.Refused r.refusal r.place) []
+src_missing b = Read.missing b
 
 -- ---- 31
 
@@ -130,7 +135,7 @@ module _ {text : List ℕ} {token : Token} where
         → ReadsName text token buffer r after
     name_read q = name_reads (name_there h) q
 
-pub ruleset sources = (src_reads, Read.missing)
+pub ruleset sources = (src_reads, src_missing)
 
 pub ruleset strings = (taken_refused, only_string, string_read)
 

@@ -7,7 +7,7 @@ use native.Mathlib.Omega.{arith}
 use lib.ListN.{length, take, drop, length-drop, drop_of_length-le}
 use lib.Seq.{slice}
 use Rattle.wat.specs.declared.{TokenKind.TokenKind, Token.Token}
-use Rattle.wat_values.specs.declared.Reading.{Reading}
+use Rattle.wat_values.specs.Answered.{Reading}
 use Rattle.wat.specs.Answers as answer
 use Rattle.wat.specs.declared.Refusal.TheVariants.{NotThatToken}
 use Rattle.wat.specs.Settings.{lenient}

@@ -6,7 +6,7 @@ use mathlib.Core.List.{List, [], ◌∷◌, ◌++◌}
 use native.Mathlib.Omega.{arith}
 use lib.ListN.{get_or, take, drop}
 use Rattle.wat.specs.declared.{Token.Token, Refusal.Refusal}
-use Rattle.wat_values.specs.declared.Reading.TheVariants as reading
+use Rattle.wat_values.specs.Answered as reading
 use Rattle.wat.specs.declared.Settings.{Settings}
 use Rattle.wat_values.specs.Reading.{ReadsName, ReadsSign, ReadsNegative, Second}
 use Rattle.wat_values.specs.Integers.{ReadsWord}

@@ -8,13 +8,15 @@ use native.Mathlib.Omega.{arith}
 use lib.ListN.{length, get_or}
 use Rattle.wat.specs.declared.{TokenKind.TokenKind, LexError.LexError, Settings.Settings, Token.Token, Refusal.Refusal}
 use Rattle.wat.specs.declared.{Refusal.TheVariants.Lexical}
-use Rattle.std.specs.Prelude.{Ok, Err}
+use Rattle.std.specs.Prelude.{Some, None, Ok, Err}
 use Rattle.wat.specs.declared.Stop.TheVariants as why
 use Rattle.wat.specs.Stopped as stop
 use Rattle.wat.specs.declared.TokenKind.TheVariants as kind
 use Rattle.wat.specs.Stopped.{Stopped}
-use Rattle.wat_values.specs.declared.{Reading.Reading, NameKind.NameKind, NameReading.NameReading}
-use Rattle.wat_values.specs.declared.Reading.TheVariants as reading
+use Rattle.wat_values.specs.declared.NameKind.{NameKind}
+use Rattle.wat_values.specs.{Answered.Reading, Named.NameReading}
+use Rattle.wat_values.specs.declared.Part.TheVariants as part
+use Rattle.wat_values.specs.Answered as reading
 use Rattle.wat_values.specs.declared.IntegerSign.TheVariants as integer
 use Rattle.wat_values.specs.declared.FloatSign.TheVariants as float
 use Rattle.wat.specs.Cases.{kind_number}
@@ -49,30 +51,30 @@ second_words : {text buffer v : List ℕ} (a : Reading) → Second text buffer a
     → (p : List ℕ) × PartWords text buffer (reading_words a) p × PartBytes text buffer p v
 second_words a (Second.in_text h) = (_, PartWords.in_text refl h, PartBytes.of_text)
 second_words a (Second.in_buffer h) = (_, PartWords.in_buffer refl h, PartBytes.of_buffer)
-second_words reading.Absent (Second.none f g) = (
+second_words (Ok None) (Second.none f g) = (
   _,
   PartWords.none (λ (e : ◌≡◌ {A = ℕ} 0 1). absurd (omega arith))
       (λ (e : ◌≡◌ {A = ℕ} 0 3). absurd (omega arith)),
   PartBytes.none,
 )
-second_words (reading.Refused r p) (Second.none f g) = (
+second_words (Err e) (Second.none f g) = (
   _,
   PartWords.none (λ (e : ◌≡◌ {A = ℕ} 2 1). absurd (omega arith))
       (λ (e : ◌≡◌ {A = ℕ} 2 3). absurd (omega arith)),
   PartBytes.none,
 )
-second_words (reading.Text s l) (Second.none f g) =
+second_words (Ok (Some (part.Text s l))) (Second.none f g) =
     (_, PartWords.none (λ e. f s l refl) (λ (e : ◌≡◌ {A = ℕ} 1 3). absurd (omega arith)), PartBytes.none)
-second_words (reading.Buffer s l) (Second.none f g) =
+second_words (Ok (Some (part.Buffer s l))) (Second.none f g) =
     (_, PartWords.none (λ (e : ◌≡◌ {A = ℕ} 3 1). absurd (omega arith)) (λ e. g s l refl), PartBytes.none)
 
 -- an answer whose first word is 2 is a refusal
 refused_words_lem : (a : Reading) → get_or (reading_words a) 0 0 ≡ 2
     → (r : Refusal) × (p : ℕ) × (a ≡ reading.Refused r p) × (reading_words a ≡ refused_words r p)
-refused_words_lem reading.Absent e = absurd (omega arith)
-refused_words_lem (reading.Text s l) e = absurd (omega arith)
-refused_words_lem (reading.Refused r p) e = (r, p, refl, refl)
-refused_words_lem (reading.Buffer s l) e = absurd (omega arith)
+refused_words_lem (Ok None) e = absurd (omega arith)
+refused_words_lem (Ok (Some (part.Text s l))) e = absurd (omega arith)
+refused_words_lem (Err x) e = (x.refusal, x.place, refl, refl)
+refused_words_lem (Ok (Some (part.Buffer s l))) e = absurd (omega arith)
 
 kind_said : {n : NameKind} {k : TokenKind} {x : ℕ} → Sigil n k x → kind_word n ≡ kind_number k
 kind_said Sigil.id = refl

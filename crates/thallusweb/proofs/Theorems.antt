@@ -17,7 +17,8 @@ use Rattle.wat.specs.Found.{Found}
 use Rattle.wat.specs.Found as found
 use Rattle.wat.specs.Answers as answer
 use Rattle.wat.specs.Stopped as stop
-use Rattle.wat_values.specs.declared.{Reading.Reading, NameReading.NameReading, IntegerSign.IntegerSign}
+use Rattle.wat_values.specs.declared.IntegerSign.{IntegerSign}
+use Rattle.wat_values.specs.{Answered.Reading, Named.NameReading}
 use Rattle.wat_values.specs.IntegerValue.{IntegerValue}
 use Rattle.wat_values.specs.declared.FloatSign.{FloatSign}
 use Rattle.wat_forms.specs.Folded.{Folded}

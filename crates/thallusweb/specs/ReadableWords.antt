@@ -5,12 +5,12 @@
 -- token's kind. The value calls of an integer give its word, or 40 where it is out of range. `PassesWords` says it; it
 -- is proved as `passes_words`.
 use Rattle.std.specs.Prelude.{ℕ, ◌≤◌, ◌<◌, ◌≡◌, ◌↔◌, List, [], ◌∷◌, ◌++◌, length, get_or, take, drop}
+use Rattle.std.specs.Prelude.{Some, None, Ok, Err}
 use Rattle.std.proofs.Math.Option.{some}
 use Rattle.wat.specs.declared.{Sign.Sign, TokenKind.TokenKind, LexError.LexError, Settings.Settings}
 use Rattle.wat.specs.declared.TokenKind.TheVariants as kind
 use Rattle.wat.specs.declared.{IntegerKind.IntegerKind, FloatKind.FloatKind, Refusal.TheVariants.Lexical}
-use Rattle.wat_values.specs.{declared.Reading.Reading, IntegerValue.IntegerValue}
-use Rattle.wat_values.specs.declared.Reading.TheVariants.{Refused, Absent, Text, Buffer}
+use Rattle.wat_values.specs.{Answered.Reading, IntegerValue.IntegerValue}
 use Rattle.wat.specs.Cases.{flag, kind_number}
 use Rattle.wat.specs.Numbers.{negative}
 use Rattle.wat.specs.Division.{Piece, lengths, Divided}
@@ -45,10 +45,9 @@ found_in w v = reading_words (found (get_or w 1 0) v)
 
 -- the number of the kind k, where an answer names a part; else 0
 abbrev pub kind_for : TokenKind → Reading → ℕ
-kind_for k (Refused r p) = 0
-kind_for k Absent = 0
-kind_for k (Text start len) = kind_number k
-kind_for k (Buffer start len) = kind_number k
+kind_for k (Err e) = 0
+kind_for k (Ok None) = 0
+kind_for k (Ok (Some p)) = kind_number k
 
 -- the words with which `thallusweb_name` answers so, of a token of the kind k: the same five, and the kind's number, or
 -- 0 where the name is refused

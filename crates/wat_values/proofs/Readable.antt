@@ -10,9 +10,10 @@ use lib.Seq.{take-take}
 use Rattle.wat.specs.declared.{IntegerKind.IntegerKind, TokenKind.TokenKind}
 use Rattle.wat.specs.declared.TokenKind.TheVariants as kind
 use Rattle.wat.specs.declared.{Token.Token, Refusal.TheVariants.Lexical, Listed.Listed}
-use Rattle.wat_values.specs.declared.{Reading.Reading, NameKind.NameKind}
+use Rattle.wat_values.specs.declared.NameKind.{NameKind}
+use Rattle.wat_values.specs.Answered.{Reading}
 use Rattle.wat.specs.Answers as answer
-use Rattle.wat_values.specs.declared.Reading.TheVariants.{Refused, Absent, Text, Buffer}
+use Rattle.wat_values.specs.Answered.{Refused, Absent, Text, Buffer}
 use Rattle.wat.specs.Stopped as stop
 use Rattle.wat.specs.declared.Settings.{Settings}
 use Rattle.wat.specs.Utf8.{WellFormed}

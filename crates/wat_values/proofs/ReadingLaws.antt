@@ -10,9 +10,10 @@ use lib.Seq.{length-take-le, take-append_seam, drop-drop, drop-append_seam}
 use Rattle.wat.specs.declared.{TokenKind.TokenKind, Token.Token, LexError.LexError, Refusal.Refusal, Refusal.TheVariants.Lexical}
 use Rattle.wat.specs.declared.{Listed.Listed}
 use Rattle.wat.specs.Answers as answer
-use Rattle.wat_values.specs.declared.{NameKind.NameKind, NameReading.NameReading}
-use Rattle.wat_values.specs.declared.Reading.TheVariants.{Refused, Text, Buffer}
-use Rattle.wat_values.specs.declared.NameReading.TheVariants as name
+use Rattle.wat_values.specs.declared.NameKind.{NameKind}
+use Rattle.wat_values.specs.Named.{NameReading}
+use Rattle.wat_values.specs.Answered.{Refused, Text, Buffer}
+use Rattle.wat_values.specs.Named as name
 use Rattle.wat.specs.Stopped as stop
 use Rattle.wat.specs.declared.Settings.{Settings}
 use Rattle.wat.specs.Bytes.{byte, has}
@@ -24,7 +25,7 @@ use Rattle.wat.specs.Division.{Piece, lengths, Divided, Listing}
 use Rattle.wat_values.specs.Values.{Reader, Sigil, Value, part, copy, absent, refused, Name, Reads}
 use Rattle.wat_values.specs.Names.{Misnamed}
 use Rattle.wat_values.specs.Reading.{There, own, found, Read, ReadsName, reading_of, Whose, Second}
-use Rattle.wat.proofs.Basics.{differ}
+use Rattle.wat.proofs.Basics.{differ, refused_same}
 use Rattle.wat_laws.proofs.Answers.{lexed_lenient, lexed_alone}
 use Rattle.wat.proofs.Boundaries.{token_formed}
 use Rattle.wat.proofs.Unique.{token_longest}
@@ -139,7 +140,7 @@ refusal {reader} {k} {w} {v} offset x r p = (to v x, from)
     to (part n u) x q = differ (cc)
     to (copy u) x q = differ (cc)
     to absent x q = differ (cc)
-    to (refused u e) x q = (e, cc, cc, refused_misnamed u e x refl)
+    to (refused u e) x q = let z = refused_same (sym q) in (e, z.0, z.1, refused_misnamed u e x refl)
 
     from : (e : LexError) × (r ≡ Lexical e) × (p ≡ offset) × Misnamed reader w e → found offset v ≡ Refused r p
     from (e, q, o, m) = let z = misnamed_refused x m in ap (found offset) z.1 ∙ cc

@@ -1,5 +1,7 @@
 pub mod Values
 pub mod Names
+pub mod Answered
+pub mod Named
 pub mod Reading
 pub mod IntegerValue
 pub mod Integers

@@ -1,14 +1,15 @@
 -- The readers' two calls (docs/RULES.md, 11). Refusals come in the order 1 to 4, 30, 31, 32, 22 to 24.
-use Rattle.std.specs.Prelude.{ℕ, ◌+◌, ◌≤◌, ◌<◌, ◌≡◌, List, [], ◌++◌, length, take, drop}
+use Rattle.std.specs.Prelude.{ℕ, ◌+◌, ◌≤◌, ◌<◌, ◌≡◌, List, [], ◌++◌, length, take, drop, Some, Ok, Err}
 use Rattle.wat.specs.declared.{IntegerKind.IntegerKind, FloatKind.FloatKind, Token.Token, Refusal.Refusal}
-use Rattle.wat_values.specs.declared.{Reading.Reading, NameKind.NameKind, NameReading.NameReading}
+use Rattle.wat_values.specs.declared.NameKind.{NameKind}
+use Rattle.wat_values.specs.{Answered.Reading, Named.NameReading}
 use Rattle.wat_values.specs.declared.{IntegerSign.IntegerSign, FloatSign.FloatSign}
 use Rattle.wat.specs.declared.TokenKind.TheVariants as kind
 use Rattle.wat.specs.declared.FloatKind.TheVariants.{Inf, Nan, NanVal, Normal}
 use Rattle.wat.specs.Answers as answer
 use Rattle.wat.specs.declared.Refusal.TheVariants.{Lexical, NotThatToken, NotThatKind, BufferTooShort}
-use Rattle.wat_values.specs.declared.Reading.TheVariants.{Refused, Absent, Text, Buffer}
-use Rattle.wat_values.specs.declared.NameReading.TheVariants as name
+use Rattle.wat_values.specs.Answered.{Refused, Absent, Text, Buffer}
+use Rattle.wat_values.specs.Named as name
 use Rattle.wat_values.specs.declared.IntegerSign.TheVariants as integer
 use Rattle.wat_values.specs.declared.FloatSign.TheVariants as float
 use Rattle.wat.specs.{Settings.lenient, Lexing.Lexed, Calls.Stands, Calls.Rejected}
@@ -73,9 +74,8 @@ pub data ReadsName (text : List ℕ) (token : Token) (buffer : List ℕ) : NameR
 
 -- its answer as another reader's, which the second call takes
 abbrev pub reading_of : NameReading → Reading
-reading_of (name.Refused r p) = Refused r p
-reading_of (name.Text n start len) = Text start len
-reading_of (name.Buffer n start len) = Buffer start len
+reading_of (Err e) = Err e
+reading_of (Ok n) = Ok (Some n.part)
 
 -- an answer of the name call says that a name is the kind's; a refusal says nothing
 pub data Whose (n : NameKind) : NameReading → Type 0 where

@@ -1,5 +1,5 @@
 use Rattle.read_text.proofs.ReadLaws.{name_read}
 use Rattle.read_text.proofs.name.Goals as goal
 
-pub returns-in-Ok : goal.returns-in-Ok
-returns-in-Ok c = name_read c.in-Ok.ensures.ok c.name.ensures
+pub returns : goal.returns
+returns c = name_read c.in_ok-kind.ensures.ok c.name.ensures
