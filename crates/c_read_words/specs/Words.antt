@@ -3,14 +3,12 @@ use Rattle.std.specs.Prelude.{ℕ, List, [], ◌∷◌, ◌++◌, Some, None, Re
 use Rattle.wat.specs.declared.{Sign.Sign, Refusal.Refusal}
 use Rattle.wat_values.specs.declared.NameKind.{NameKind}
 use Rattle.wat_values.specs.{Answered.Reading, Named.NameReading}
-use Rattle.wat_values.specs.declared.{IntegerSign.IntegerSign, FloatSign.FloatSign}
+use Rattle.wat_values.specs.{IntegerSign.IntegerSign, FloatSign.FloatSign}
 use Rattle.wat_values.specs.IntegerValue.{IntegerValue}
 use Rattle.wat.specs.declared.Sign.TheVariants.{Unsigned, Plus, Minus}
 use Rattle.wat.specs.declared.TokenKind.TheVariants as kind
 use Rattle.wat_values.specs.declared.Part.TheVariants as part
 use Rattle.wat_values.specs.declared.NameKind.TheVariants as name_of
-use Rattle.wat_values.specs.declared.IntegerSign.TheVariants as integer
-use Rattle.wat_values.specs.declared.FloatSign.TheVariants as float
 use Rattle.wat.specs.Cases.{flag, kind_number}
 use Rattle.wat_values.specs.Reading.{no_place, reading_of}
 use Rattle.wat_values.specs.Integers.{out_of_range_number}
@@ -43,8 +41,8 @@ sign_word Plus = 1
 sign_word Minus = 2
 
 abbrev pub integer_sign_words : IntegerSign → List ℕ
-integer_sign_words (integer.Refused r p) = refused_words r p
-integer_sign_words (integer.Sign s) = 1 ∷ sign_word s ∷ 0 ∷ 0 ∷ 0 ∷ []
+integer_sign_words (Err e) = refused_words e.refusal e.place
+integer_sign_words (Ok s) = 1 ∷ sign_word s ∷ 0 ∷ 0 ∷ 0 ∷ []
 
 -- the word of an integer, or a refusal; a literal that is out of range is one, and has no place and no values
 abbrev pub integer_words : IntegerValue → List ℕ
@@ -53,9 +51,9 @@ integer_words (Ok None) = 2 ∷ out_of_range_number ∷ no_place ∷ 0 ∷ 0 ∷
 integer_words (Ok (Some v)) = 1 ∷ v ∷ 0 ∷ 0 ∷ 0 ∷ []
 
 abbrev pub float_sign_words : FloatSign → List ℕ
-float_sign_words (float.Refused r p) = refused_words r p
-float_sign_words float.Absent = 0 ∷ 0 ∷ 0 ∷ 0 ∷ 0 ∷ []
-float_sign_words (float.Negative n) = 1 ∷ flag n 1 ∷ 0 ∷ 0 ∷ 0 ∷ []
+float_sign_words (Err e) = refused_words e.refusal e.place
+float_sign_words (Ok None) = 0 ∷ 0 ∷ 0 ∷ 0 ∷ 0 ∷ []
+float_sign_words (Ok (Some n)) = 1 ∷ flag n 1 ∷ 0 ∷ 0 ∷ 0 ∷ []
 
 -- a message of so many bytes, or a refusal, which has no place
 abbrev pub message_words : Result ℕ Refusal → List ℕ

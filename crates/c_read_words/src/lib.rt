@@ -6,7 +6,7 @@ ghost use Rattle.c_read_words.specs.Words.{reading_words, name_words, name_word,
 ghost use Rattle.c_read_words.specs.Words.{integer_sign_words, integer_words, float_sign_words, message_words};
 
 use wat::{Refusal, Refused, Sign};
-use wat_values::{FloatSign, IntegerSign, Name, NameKind, Part};
+use wat_values::{Name, NameKind, Part};
 
 // What a reader found of a token.
 pub fn reading_words(r: Result<Option<Part>, Refused>) -> [u64; 5]
@@ -47,16 +47,14 @@ fn kind_word(kind: NameKind) -> u64
     }
 }
 
-pub fn integer_sign_words(s: IntegerSign) -> [u64; 5]
+pub fn integer_sign_words(s: Result<Sign, Refused>) -> [u64; 5]
     ensures { result ≡ integer_sign_words s }
 {
     match s {
-        IntegerSign::Refused { refusal, place } => c_words::refused_words(refusal, place),
-        IntegerSign::Sign(sign) => match sign {
-            Sign::Unsigned => [1, 0, 0, 0, 0],
-            Sign::Plus => [1, 1, 0, 0, 0],
-            Sign::Minus => [1, 2, 0, 0, 0],
-        },
+        Err(e) => c_words::refused_words(e.refusal, e.place),
+        Ok(Sign::Unsigned) => [1, 0, 0, 0, 0],
+        Ok(Sign::Plus) => [1, 1, 0, 0, 0],
+        Ok(Sign::Minus) => [1, 2, 0, 0, 0],
     }
 }
 
@@ -70,13 +68,13 @@ pub fn integer_words(v: Result<Option<u64>, Refused>) -> [u64; 5]
     }
 }
 
-pub fn float_sign_words(s: FloatSign) -> [u64; 5]
+pub fn float_sign_words(s: Result<Option<bool>, Refused>) -> [u64; 5]
     ensures { result ≡ float_sign_words s }
 {
     match s {
-        FloatSign::Absent => [0, 0, 0, 0, 0],
-        FloatSign::Negative(negative) => [1, negative as u64, 0, 0, 0],
-        FloatSign::Refused { refusal, place } => c_words::refused_words(refusal, place),
+        Ok(None) => [0, 0, 0, 0, 0],
+        Ok(Some(negative)) => [1, negative as u64, 0, 0, 0],
+        Err(e) => c_words::refused_words(e.refusal, e.place),
     }
 }
 

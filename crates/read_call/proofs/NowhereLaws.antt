@@ -4,14 +4,14 @@ use mathlib.Core.Path.{◌≡◌, ap}
 use mathlib.Core.List.{List}
 use lib.ListN.{take, drop}
 use Rattle.wat.specs.declared.{Token.Token, Refusal.Refusal}
-use Rattle.wat_values.specs.declared.IntegerSign.{IntegerSign}
+use Rattle.wat_values.specs.IntegerSign.{IntegerSign}
 use Rattle.wat_values.specs.{Answered.Reading, Named.NameReading}
-use Rattle.wat_values.specs.declared.FloatSign.{FloatSign}
+use Rattle.wat_values.specs.FloatSign.{FloatSign}
 use Rattle.wat_values.specs.IntegerValue.{IntegerValue}
 use Rattle.wat_values.specs.Answered as reading
 use Rattle.wat_values.specs.Named as name
-use Rattle.wat_values.specs.declared.IntegerSign.TheVariants as integer
-use Rattle.wat_values.specs.declared.FloatSign.TheVariants as float
+use Rattle.wat_values.specs.IntegerSign as integer
+use Rattle.wat_values.specs.FloatSign as float
 use Rattle.wat_values.specs.IntegerValue as value
 use Rattle.wat_values.specs.Reading.{There, Missing, Read, ReadsName, ReadsSign, ReadsNegative}
 use Rattle.wat_values.specs.Integers.{ReadsWord}

@@ -11,7 +11,7 @@ use Rattle.wat.specs.declared.Refusal.TheVariants.{NotThatKind}
 use Rattle.wat.specs.declared.TokenKind.TheVariants as kind
 use Rattle.wat_values.specs.Answered as reading
 use Rattle.wat.specs.declared.FloatKind.TheVariants as number
-use Rattle.wat_values.specs.declared.FloatSign.TheVariants as float
+use Rattle.wat_values.specs.FloatSign as float
 use Rattle.wat.specs.Tokens.{Tok}
 use Rattle.wat_values.specs.Values.{Reader, Takes}
 use Rattle.wat_values.specs.Reading.{There, no_place, Read, ReadsNegative}

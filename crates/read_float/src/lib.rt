@@ -9,7 +9,7 @@ ghost use Rattle.wat_values.specs.Reading.{Read, ReadsNegative};
 
 use lex_classes::Table;
 use wat::{FloatKind, NumberKind, Refusal, Refused, Token};
-use wat_values::{FloatPart, FloatSign, NO_PLACE, Part};
+use wat_values::{FloatPart, NO_PLACE, Part};
 
 // A part of a float, absent where its kind lacks it.
 #[tactic(auto, using(crate::proofs::ReadLaws::parts))]
@@ -63,29 +63,25 @@ pub fn payload(text: &[u8], token: Token, buffer: &mut [u8]) -> Result<Option<Pa
     part(text, token, FloatPart::Payload, buffer)
 }
 
-// Whether a float is negative. A Normal's sign is in its integral part.
+// Whether a float is negative. A Normal's sign is in its integral part, and none is answered here.
 #[tactic(auto, using(crate::proofs::ReadLaws::signs))]
-pub fn float_sign(text: &[u8], token: Token) -> FloatSign
+pub fn float_sign(text: &[u8], token: Token) -> Result<Option<bool>, Refused>
     ensures { ReadsNegative text.now token result }
 {
     let t = Table::new();
-    match read_token::number_kind(text, token, &t) {
-        Err(Refused { refusal, place }) => FloatSign::Refused { refusal, place },
-        Ok(NumberKind::Integer(_)) => FloatSign::Refused {
-            refusal: Refusal::NotThatKind,
-            place: NO_PLACE,
-        },
-        Ok(NumberKind::Float(kind)) => match kind {
-            FloatKind::Inf { negative } => FloatSign::Negative(negative),
-            FloatKind::Nan { negative } => FloatSign::Negative(negative),
+    match read_token::number_kind(text, token, &t)? {
+        NumberKind::Integer(_) => Err(read_token::NOT_THAT_KIND),
+        NumberKind::Float(kind) => match kind {
+            FloatKind::Inf { negative } => Ok(Some(negative)),
+            FloatKind::Nan { negative } => Ok(Some(negative)),
             FloatKind::NanVal {
                 negative,
                 underscores: _,
-            } => FloatSign::Negative(negative),
+            } => Ok(Some(negative)),
             FloatKind::Normal {
                 underscores: _,
                 hex: _,
-            } => FloatSign::Absent,
+            } => Ok(None),
         },
     }
 }

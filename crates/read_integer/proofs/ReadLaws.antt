@@ -8,7 +8,7 @@ use Rattle.wat_values.specs.Answered.{Reading}
 use Rattle.wat.specs.declared.Refusal.TheVariants.{NotThatKind}
 use Rattle.wat.specs.declared.TokenKind.TheVariants as kind
 use Rattle.wat_values.specs.Answered as reading
-use Rattle.wat_values.specs.declared.IntegerSign.TheVariants as integer
+use Rattle.wat_values.specs.IntegerSign as integer
 use Rattle.wat.specs.Numbers.{IsFloat}
 use Rattle.wat_values.specs.Values.{Reader, Takes, Reads}
 use Rattle.wat_values.specs.Reading.{There, no_place, Read, ReadsSign}

@@ -7,8 +7,8 @@ ghost use Rattle.wat_values.specs.Values.{Reader};
 ghost use Rattle.wat_values.specs.Reading.{Read, ReadsSign};
 
 use lex_classes::Table;
-use wat::{NumberKind, Refusal, Refused, Token};
-use wat_values::{IntegerSign, NO_PLACE, Part};
+use wat::{NumberKind, Refusal, Refused, Sign, Token};
+use wat_values::{NO_PLACE, Part};
 
 // An integer's digits, with a `-`.
 #[tactic(auto, using(crate::proofs::ReadLaws::digits))]
@@ -31,19 +31,12 @@ pub fn integer(text: &[u8], token: Token, buffer: &mut [u8]) -> Result<Option<Pa
 }
 
 #[tactic(auto, using(crate::proofs::ReadLaws::signs))]
-pub fn integer_sign(text: &[u8], token: Token) -> IntegerSign
+pub fn integer_sign(text: &[u8], token: Token) -> Result<Sign, Refused>
     ensures { ReadsSign text.now token result }
 {
     let t = Table::new();
-    match read_token::number_kind(text, token, &t) {
-        Err(Refused { refusal, place }) => IntegerSign::Refused { refusal, place },
-        Ok(NumberKind::Float(_)) => IntegerSign::Refused {
-            refusal: Refusal::NotThatKind,
-            place: NO_PLACE,
-        },
-        Ok(NumberKind::Integer(kind)) => {
-            let sign = kind.sign;
-            IntegerSign::Sign(sign)
-        }
+    match read_token::number_kind(text, token, &t)? {
+        NumberKind::Integer(kind) => Ok(kind.sign),
+        NumberKind::Float(_) => Err(read_token::NOT_THAT_KIND),
     }
 }

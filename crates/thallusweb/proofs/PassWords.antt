@@ -17,8 +17,8 @@ use Rattle.wat_values.specs.declared.NameKind.{NameKind}
 use Rattle.wat_values.specs.{Answered.Reading, Named.NameReading}
 use Rattle.wat_values.specs.declared.Part.TheVariants as part
 use Rattle.wat_values.specs.Answered as reading
-use Rattle.wat_values.specs.declared.IntegerSign.TheVariants as integer
-use Rattle.wat_values.specs.declared.FloatSign.TheVariants as float
+use Rattle.wat_values.specs.IntegerSign as integer
+use Rattle.wat_values.specs.FloatSign as float
 use Rattle.wat.specs.Cases.{kind_number}
 use Rattle.wat.specs.Numbers.{negative}
 use Rattle.wat.specs.Division.{lengths}

@@ -17,10 +17,10 @@ use Rattle.wat.specs.Found.{Found}
 use Rattle.wat.specs.Found as found
 use Rattle.wat.specs.Answers as answer
 use Rattle.wat.specs.Stopped as stop
-use Rattle.wat_values.specs.declared.IntegerSign.{IntegerSign}
+use Rattle.wat_values.specs.IntegerSign.{IntegerSign}
 use Rattle.wat_values.specs.{Answered.Reading, Named.NameReading}
 use Rattle.wat_values.specs.IntegerValue.{IntegerValue}
-use Rattle.wat_values.specs.declared.FloatSign.{FloatSign}
+use Rattle.wat_values.specs.FloatSign.{FloatSign}
 use Rattle.wat_forms.specs.Folded.{Folded}
 use Rattle.wat_forms.specs.Folded as folded
 use Rattle.place.specs.declared.Place.{Place}

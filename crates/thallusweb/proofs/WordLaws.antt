@@ -6,10 +6,10 @@ use lib.ListN.{get_or}
 use Rattle.std.specs.Prelude.{Result}
 use Rattle.wat.specs.declared.{Parsed.Parsed, Listed.Listed, Token.Token, Refusal.Refusal}
 use Rattle.wat.specs.Checked.{Checked}
-use Rattle.wat_values.specs.declared.IntegerSign.{IntegerSign}
+use Rattle.wat_values.specs.IntegerSign.{IntegerSign}
 use Rattle.wat_values.specs.{Answered.Reading, Named.NameReading}
 use Rattle.wat_values.specs.IntegerValue.{IntegerValue}
-use Rattle.wat_values.specs.declared.{FloatSign.FloatSign}
+use Rattle.wat_values.specs.FloatSign.{FloatSign}
 use Rattle.wat_forms.specs.Folded.{Folded}
 use Rattle.wat.specs.declared.Settings.{Settings}
 use Rattle.wat.specs.Found.{Found}

@@ -2,9 +2,9 @@
 use Rattle.std.specs.Prelude.{ℕ, List, get_or, Result}
 use Rattle.wat.specs.declared.{Token.Token, Refusal.Refusal, Parsed.Parsed, Listed.Listed}
 use Rattle.wat.specs.Checked.{Checked}
-use Rattle.wat_values.specs.declared.IntegerSign.{IntegerSign}
+use Rattle.wat_values.specs.IntegerSign.{IntegerSign}
 use Rattle.wat_values.specs.{Answered.Reading, Named.NameReading}
-use Rattle.wat_values.specs.{declared.FloatSign.FloatSign, IntegerValue.IntegerValue}
+use Rattle.wat_values.specs.{FloatSign.FloatSign, IntegerValue.IntegerValue}
 use Rattle.wat_values.specs.Named as name
 use Rattle.wat_forms.specs.Folded.{Folded}
 use Rattle.wat.specs.declared.Settings.{Settings}

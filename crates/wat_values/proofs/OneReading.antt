@@ -5,7 +5,7 @@ use mathlib.Core.List.{List, ◌++◌}
 use native.Mathlib.Omega.{arith}
 use lib.ListN.{length, drop}
 use Rattle.wat.specs.declared.{TokenKind.TokenKind, Token.Token, Refusal.Refusal}
-use Rattle.wat_values.specs.declared.{IntegerSign.IntegerSign, FloatSign.FloatSign}
+use Rattle.wat_values.specs.{IntegerSign.IntegerSign, FloatSign.FloatSign}
 use Rattle.wat_values.specs.{Answered.Reading, Named.NameReading}
 use Rattle.wat_values.specs.Values.{Reader, Takes, Value, Reads}
 use Rattle.wat_values.specs.Reading.{There, Missing, needs, found, Handed, Read, ReadsName, Second, ReadsSign, negative_of}

@@ -4,7 +4,7 @@ use mathlib.Core.Path.{◌≡◌, refl, sym, ap, ◌∙◌, subst}
 use mathlib.Core.List.{List}
 use Rattle.wat.specs.declared.{Sign.Sign, FloatKind.FloatKind, TokenKind.TokenKind, Token.Token}
 use Rattle.wat.specs.declared.TokenKind.TheVariants as kind
-use Rattle.wat_values.specs.declared.FloatSign.TheVariants.{Negative}
+use Rattle.wat_values.specs.FloatSign.{Negative}
 use Rattle.wat.specs.Numbers.{negative}
 use Rattle.wat_values.specs.Reading.{There, negative_of, ReadsSign, ReadsNegative}
 use Rattle.wat_values.specs.Readable.{SignOf, HasSign, Signs}

@@ -3,6 +3,8 @@ pub mod Names
 pub mod Answered
 pub mod Named
 pub mod Reading
+pub mod FloatSign
+pub mod IntegerSign
 pub mod IntegerValue
 pub mod Integers
 pub mod IntegerModel

@@ -11,11 +11,11 @@ use Rattle.wat.specs.declared.TokenKind.TheVariants as kind
 use Rattle.wat.specs.declared.FloatKind.TheVariants.{Inf, Nan, NanVal}
 use Rattle.wat_values.specs.declared.NameKind.{NameKind}
 use Rattle.wat_values.specs.{Answered.Reading, Named.NameReading}
-use Rattle.wat_values.specs.declared.{IntegerSign.IntegerSign, FloatSign.FloatSign}
+use Rattle.wat_values.specs.{IntegerSign.IntegerSign, FloatSign.FloatSign}
 use Rattle.wat_values.specs.IntegerValue.{IntegerValue}
 use Rattle.wat_values.specs.Answered.{Refused}
-use Rattle.wat_values.specs.declared.IntegerSign.TheVariants as integer
-use Rattle.wat_values.specs.declared.FloatSign.TheVariants as float
+use Rattle.wat_values.specs.IntegerSign as integer
+use Rattle.wat_values.specs.FloatSign as float
 use Rattle.wat.specs.Numbers.{Digits, Signed, negative, inf, nan, nan_colon}
 use Rattle.wat.specs.Division.{Piece, lengths}
 use Rattle.wat.specs.Whole.{Whole}

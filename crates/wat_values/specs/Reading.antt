@@ -3,15 +3,15 @@ use Rattle.std.specs.Prelude.{ℕ, ◌+◌, ◌≤◌, ◌<◌, ◌≡◌, List,
 use Rattle.wat.specs.declared.{IntegerKind.IntegerKind, FloatKind.FloatKind, Token.Token, Refusal.Refusal}
 use Rattle.wat_values.specs.declared.NameKind.{NameKind}
 use Rattle.wat_values.specs.{Answered.Reading, Named.NameReading}
-use Rattle.wat_values.specs.declared.{IntegerSign.IntegerSign, FloatSign.FloatSign}
+use Rattle.wat_values.specs.{IntegerSign.IntegerSign, FloatSign.FloatSign}
 use Rattle.wat.specs.declared.TokenKind.TheVariants as kind
 use Rattle.wat.specs.declared.FloatKind.TheVariants.{Inf, Nan, NanVal, Normal}
 use Rattle.wat.specs.Answers as answer
 use Rattle.wat.specs.declared.Refusal.TheVariants.{Lexical, NotThatToken, NotThatKind, BufferTooShort}
 use Rattle.wat_values.specs.Answered.{Refused, Absent, Text, Buffer}
 use Rattle.wat_values.specs.Named as name
-use Rattle.wat_values.specs.declared.IntegerSign.TheVariants as integer
-use Rattle.wat_values.specs.declared.FloatSign.TheVariants as float
+use Rattle.wat_values.specs.IntegerSign as integer
+use Rattle.wat_values.specs.FloatSign as float
 use Rattle.wat.specs.{Settings.lenient, Lexing.Lexed, Calls.Stands, Calls.Rejected}
 use Rattle.wat_values.specs.Values.{Reader, Sigil, Takes, Value, part, copy, absent, refused, Reads}
 

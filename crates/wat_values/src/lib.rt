@@ -1,7 +1,7 @@
 // What the readers answer. specs/ says which answer is right: what each reader leaves of a token's bytes.
 #![tactic(auto)]
 
-use wat::{Refusal, Sign};
+use wat::Refusal;
 
 // The place of a refusal that has none: no such token (30), another kind (31), too short a buffer (32).
 pub const NO_PLACE: usize = 0;
@@ -35,17 +35,4 @@ pub enum FloatPart {
     Fraction,
     Exponent,
     Payload,
-}
-
-#[derive(Clone, Copy)]
-pub enum IntegerSign {
-    Refused { refusal: Refusal, place: usize },
-    Sign(Sign),
-}
-
-#[derive(Clone, Copy)]
-pub enum FloatSign {
-    Refused { refusal: Refusal, place: usize },
-    Absent,
-    Negative(bool),
 }
