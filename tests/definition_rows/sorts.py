@@ -25,7 +25,7 @@ use Rattle.wat.specs.declared.LexError.TheVariants as error
 """
 
 LEX_IMPORTS = """\
-use Rattle.wat.specs.declared.Answer.TheVariants as answer
+use Rattle.wat.specs.Answers as answer
 use Rattle.wat.specs.Settings.{plain, lenient}
 use Rattle.wat.specs.Faults.{fault}
 """

@@ -158,7 +158,7 @@ impl Model for KindNumber {
     ghost use Rattle.std.specs.Prelude.{◌≡◌};
     ghost use Rattle.wat.specs.declared.TokenKind.{TokenKind};
     ghost use Rattle.wat.specs.Cases.{kind_number};
-    ghost use Rattle.wat.specs.KindAt.{kind_at};
+    ghost use Rattle.wat.specs.KindModel.{kind_at};
 
     ghost Value = { TokenKind };
 
@@ -192,22 +192,6 @@ impl KindNumber {
         ensures { result ≡ self }
     {
         candidate(self.number)
-    }
-}
-
-impl From<TokenKind> for KindNumber {
-    ghost from_gives = { λ k n. n ≡ k };
-
-    fn from(k: TokenKind) -> KindNumber {
-        KindNumber::new(k)
-    }
-}
-
-impl From<KindNumber> for TokenKind {
-    ghost from_gives = { λ n k. k ≡ n };
-
-    fn from(n: KindNumber) -> TokenKind {
-        n.kind()
     }
 }
 

@@ -1,12 +1,13 @@
 -- A move of the place counter has one answer. Assumes nothing.
 use Prim.Native.Nat.{ℕ}
-use mathlib.Core.Path.{◌≡◌, refl, sym, ◌∙◌}
+use mathlib.Core.Path.{◌≡◌, refl, sym, ap, ◌∙◌}
 use mathlib.Core.Bool.{true, false}
 use mathlib.Core.List.{List, [], ◌∷◌, ◌++◌}
 use Rattle.place.specs.declared.Place.{Place}
 use Rattle.wat.specs.Bytes.{Each}
 use Rattle.wat.specs.Chars.{newline}
-use Rattle.place.specs.Places.{Column, Leads, Moved, Moves}
+use Rattle.std.specs.Prelude.{Option, Some, None}
+use Rattle.place.specs.Places.{Column, Leads, Moved, Moves, answer}
 use Rattle.wat.proofs.Basics.{differ, never}
 
 -- no CR and no LF stands among bytes that are none
@@ -43,3 +44,13 @@ moves_one (Moves.moves h l) (Moves.moves h' l') = let z = leads_one l l' in cc
 moves_one (Moves.moves h l) (Moves.full u v e n) = let p = h u v e in absurd (n p.0 p.1)
 moves_one (Moves.full u v e n) (Moves.moves h l) = let p = h u v e in absurd (n p.0 p.1)
 moves_one (Moves.full u v e n) (Moves.full u' v' e' n') = refl
+
+answer_one : (p : Place) (a b : Option Place) → answer p a ≡ answer p b → a ≡ b
+answer_one p (Some q) (Some r) e = ap (λ (m : Moved). Some m.place) e
+answer_one p (Some q) None e = absurd (never (sym (ap (λ (m : Moved). m.ok) e)) refl)
+answer_one p None (Some q) e = absurd (never (ap (λ (m : Moved). m.ok) e) refl)
+answer_one p None None e = refl
+
+-- and so has the call that answers the place alone
+pub move_one : {from : Place} {w : List ℕ} {a b : Option Place} → Moves from w (answer from a) → Moves from w (answer from b) → a ≡ b
+move_one {from} {a = a} {b = b} x y = answer_one from a b (moves_one x y)

@@ -16,7 +16,7 @@ use Rattle.wat.specs.declared.TokenKind.{TokenKind}
 use Rattle.wat.specs.declared.TokenKind.TheVariants.{LineComment, BlockComment, Whitespace, LParen, RParen, String, Id, Keyword}
 use Rattle.wat.specs.declared.TokenKind.TheVariants.{Annotation, Reserved, Integer, Float}
 use Rattle.wat.specs.Cases.{flag, sign_number, kind_number}
-use Rattle.wat.specs.KindAt.{detail, sign_at, integer_at, kinds, kind_at}
+use Rattle.wat.specs.KindModel.{detail, sign_at, integer_at, kinds, kind_at}
 
 abbrev Again : TokenKind → Type 0
 Again k = k ≡ kind_at (kind_number k)

@@ -1,7 +1,7 @@
 -- A kind is found again from its number.
 use Rattle.std.proofs.Common.{sym, ap, ◌∙◌}
 use Rattle.wat.specs.Cases.{kind_number}
-use Rattle.wat.specs.KindAt.{kind_at}
+use Rattle.wat.specs.KindModel.{kind_at}
 use Rattle.wat.proofs.KindNumbers.{found_again}
 use Rattle.codes.proofs.KindNumber.new.Goals as goal
 
