@@ -2,11 +2,11 @@
 use Prim.Native.Nat.{ℕ, ◌+◌, ◌-◌, ◌≤◌}
 use mathlib.Core.Path.{◌≡◌, refl, sym, ap, subst, ◌∙◌}
 use mathlib.Core.List.{List}
-use Rattle.std.specs.Prelude.{Option, Some, None}
+use Rattle.std.specs.Prelude.{Option, Some, None, Result, IfErr, ⊤}
 use native.Mathlib.Omega.{arith}
 use lib.ListN.{length, take, drop, length-drop, drop_of_length-le}
 use lib.Seq.{slice}
-use Rattle.wat.specs.declared.{TokenKind.TokenKind, Token.Token}
+use Rattle.wat.specs.declared.{TokenKind.TokenKind, Token.Token, Refused.Refused}
 use Rattle.wat_values.specs.Answered.{Reading}
 use Rattle.wat.specs.Answers as answer
 use Rattle.wat.specs.declared.Refusal.TheVariants.{NotThatToken}
@@ -24,6 +24,8 @@ use Rattle.wat_laws.proofs.Answers.{lexed_is}
 use Rattle.wat_laws.proofs.Divisions.{token_size}
 use Rattle.wat_values.proofs.SomeValue as one
 use Rattle.wat_values.proofs.ReadingLaws.{is_token}
+use Rattle.lex_entry.specs.Left.{Left}
+use Rattle.read_token.specs.Here.{Misses}
 use Rattle.lex_token.specs.declared.Step.{Step}
 use Rattle.lex_token.specs.Steps.{step_of, Stepped}
 use Rattle.lex_token.specs.Alone.{Whole, Alone}
@@ -108,5 +110,11 @@ module _ {text : List ℕ} {token : Token} (t : There text token) where
       → Handed token.offset v buffer r after)
       → Read reader text token buffer r after
   hands_reads e takes h = let v = one.reads (there_slice e) takes in slice_reads e v.1 (h v.0 v.1)
+
+-- what is left of a text from a place on misses a token where the text does
+pub missed : {text : List ℕ} {l : Left} {o : ℕ} (k : TokenKind) (n : ℕ) (r : Result ⊤ Refused) → l ≡ record { text = text; at = o }
+    → IfErr r (Misses l.text (record { kind = k; offset = l.at; len = n }))
+    → IfErr r (Misses text (record { kind = k; offset = o; len = n }))
+missed k n r e h = rw e at h
 
 pub ruleset presents = (Missing.rejected, none_there, no_step_there, other_length_there)
