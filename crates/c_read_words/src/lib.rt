@@ -72,7 +72,7 @@ pub fn float_sign_words(s: Result<Option<bool>, Refused>) -> [u64; 5]
     ensures { result ≡ float_sign_words s }
 {
     match s {
-        Ok(None) => [0, 0, 0, 0, 0],
+        Ok(None) => [0, 0, 0, 0, 0], // absent: the sign of a Normal is in its integral part
         Ok(Some(negative)) => [1, negative as u64, 0, 0, 0],
         Err(e) => c_words::refused_words(e.refusal, e.place),
     }
