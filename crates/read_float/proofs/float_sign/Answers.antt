@@ -5,5 +5,5 @@ use Rattle.read_float.proofs.float_sign.Goals as goal
 
 pub returns-in-NanVal : goal.returns-in-NanVal
 returns-in-NanVal c =
-    let h = subst (HereNumber c.args.text.now c.args.token) c.in-Ok-Float.field-0-is c.in-Ok-Float.ensures.ok in
+    let h = subst (HereNumber c.args.text.now c.args.token) c.in-Float.is c.in_ok-number_kind.ensures.ok in
     payload_signed h.0 h.1 c.in-NanVal.is
