@@ -56,7 +56,8 @@ unconfusing c ch f = go (confusing (scalar c)) refl
         absurd (never (ap (λ (l : List ℕ). confusing_bytes (get_or l 0 0) (get_or l 1 0) (get_or l 2 0)) bytes ∙ told n e) f)
 
 -- where such bytes stand
-pub spread : (b c d : ℕ) → confusing_bytes b c d ≡ true → (b ≡ 0xE2) × ((c ≡ 0x80) ⊎ (c ≡ 0x81)) × (0xA6 ≤ d) × (d ≤ 0xAE)
+pub spread : (b c d : ℕ) → confusing_bytes b c d ≡ true
+    → (b ≡ 0xE2) × ((c ≡ 0x80) ⊎ (c ≡ 0x81)) × (0xA6 ≤ d) × (d ≤ 0xAE)
 unfolding confusing_bytes
 spread b c d e =
     let p = (and-eq-true_iff (eqb b 0xE2) _).0 e in

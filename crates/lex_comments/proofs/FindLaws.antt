@@ -27,5 +27,6 @@ pub byte_behind : (s : List ℕ) (i n k : ℕ) → i + n ≡ k → get_or (drop 
 byte_behind s i n k e = get_or-drop i s n 0 ∙ ap (λ (m : ℕ). get_or s m 0) e
 
 -- where the places that do not pass f do not pass g
-pub clear_also : {f : ℕ → Bool} {i j : ℕ} (g : ℕ → Bool) → ((k : ℕ) → f k ≡ false → g k ≡ false) → Clear f i j → Clear g i j
+pub clear_also : {f : ℕ → Bool} {i j : ℕ} (g : ℕ → Bool) → ((k : ℕ) → f k ≡ false → g k ≡ false)
+    → Clear f i j → Clear g i j
 clear_also g t p = record { none = λ k a l. t k (p.none k a l) }

@@ -48,8 +48,8 @@ unfolding sign_of
 minus_first [] h e = absurd (omega arith)
 minus_first (x ∷ xs) h e = rw e
 
-pub no_sign_first : (word : List ℕ) → 0 < length word → (get_or word 0 0 ≡ byte "+" → ⊥) → (get_or word 0 0 ≡ byte "-" → ⊥)
-    → Unsigned ≡ sign_of word
+pub no_sign_first : (word : List ℕ) → 0 < length word → (get_or word 0 0 ≡ byte "+" → ⊥)
+    → (get_or word 0 0 ≡ byte "-" → ⊥) → Unsigned ≡ sign_of word
 unfolding sign_of
 no_sign_first [] h p m = absurd (omega arith)
 no_sign_first (x ∷ xs) h p m = rw (ne_eqb x (byte "+") p, ne_eqb x (byte "-") m, sign_of)
@@ -108,7 +108,8 @@ module _ (hex : Bool) where
   unfolding fraction
   no_dot_left word e = rw e
 
-  pub no_dot_first : (word : List ℕ) → 0 < length word → (get_or word 0 0 ≡ byte "." → ⊥) → fraction hex word ≡ past false word
+  pub no_dot_first : (word : List ℕ) → 0 < length word → (get_or word 0 0 ≡ byte "." → ⊥)
+      → fraction hex word ≡ past false word
   unfolding fraction
   no_dot_first [] h n = absurd (omega arith)
   no_dot_first (x ∷ xs) h n = rw (ne_eqb x (byte ".") n, fraction)
@@ -122,7 +123,8 @@ module _ (hex : Bool) where
         go [] h e = absurd (omega arith)
         go (x ∷ xs) h e = rw (eq-eqb x (byte ".") e, fraction)
 
-    dot_passed : fraction hex word ≡ past false (drop 1 word) → Skips word (fraction hex word) (Some (record { underscores = false; at = 1 }))
+    dot_passed : fraction hex word ≡ past false (drop 1 word)
+        → Skips word (fraction hex word) (Some (record { underscores = false; at = 1 }))
     dot_passed e = record { same = e; within = omega arith }
 
     pub dot_last : length word < 2 → Skips word (fraction hex word) (Some (record { underscores = false; at = 1 }))
@@ -144,7 +146,8 @@ module _ (hex : Bool) where
   unfolding exponent
   no_mark_left word e = rw e
 
-  pub no_mark_first : (word : List ℕ) → 0 < length word → marks hex (get_or word 0 0) ≡ false → Skips word (exponent hex word) None
+  pub no_mark_first : (word : List ℕ) → 0 < length word → marks hex (get_or word 0 0) ≡ false
+      → Skips word (exponent hex word) None
   unfolding exponent
   no_mark_first [] h p = absurd (omega arith)
   no_mark_first (x ∷ xs) h p = record { same = rw (p, exponent); within = tt }

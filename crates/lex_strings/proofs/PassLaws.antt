@@ -168,7 +168,8 @@ module _ {σ : Settings} {s : List ℕ} {at i : ℕ} (x : Reached σ s at i) whe
   pub reached_element : {n : ℕ} {v : List ℕ} → Element (drop i s) (read σ (drop i s)) n v → Reached σ s at (i + n)
   reached_element r = reached_on (element_onward σ s r)
 
-  pub reached_pair : {b : Bool} (o : Option ℕ) → IfSome o (Pairs (drop i s)) → b ≡ is_some o → b ≡ true → Reached σ s at (i + 3)
+  pub reached_pair : {b : Bool} (o : Option ℕ) → IfSome o (Pairs (drop i s)) → b ≡ is_some o → b ≡ true
+      → Reached σ s at (i + 3)
   reached_pair o p q e = reached_element ((paired o p q e).1 σ)
 
   pub reached_ends : (read σ (drop i s) ≡ quote) × (1 ≤ length (drop i s)) → Ends σ s at (i + 1)

@@ -49,12 +49,16 @@ raw_one s i h e =
     let g = eqb-false b (byte "\\") (not-true _ n.1) in
     let shown : control b ≡ false = rw (le-ltb b 0x20 k.0, ne_eqb b 0x7F (omega arith)) in
     let plain = confusing_not b (omega arith) in
-    record { some = omega arith; fits = omega arith; is = λ σ. rw (drop-cons s i 0 h) (Elem.raw (ascii b (omega arith)) shown f g (λ _. plain)) }
+    record {
+      some = omega arith;
+      fits = omega arith;
+      is = λ σ. rw (drop-cons s i 0 h) (Elem.raw (ascii b (omega arith)) shown f g (λ _. plain));
+    }
 
 -- a character that is not ASCII, and has not the bytes of a confusing one
 raw_wide :
-    (s : List ℕ) (i n : ℕ) (c : List ℕ) → 1 ≤ n → i + n ≤ length s → take n (drop i s) ≡ c → Char c → 0x80 ≤ get_or c 0 0
-    → confusing_bytes (get_or c 0 0) (get_or c 1 0) (get_or c 2 0) ≡ false → Raw s i n
+    (s : List ℕ) (i n : ℕ) (c : List ℕ) → 1 ≤ n → i + n ≤ length s → take n (drop i s) ≡ c → Char c
+    → 0x80 ≤ get_or c 0 0 → confusing_bytes (get_or c 0 0) (get_or c 1 0) (get_or c 2 0) ≡ false → Raw s i n
 raw_wide s i n c o h e ch w f =
     let high = wide_scalar c ch w in
     record {

@@ -52,5 +52,6 @@ answer_one p None (Some q) e = absurd (never (ap (λ (m : Moved). m.ok) e) refl)
 answer_one p None None e = refl
 
 -- and so has the call that answers the place alone
-pub move_one : {from : Place} {w : List ℕ} {a b : Option Place} → Moves from w (answer from a) → Moves from w (answer from b) → a ≡ b
+pub move_one : {from : Place} {w : List ℕ} {a b : Option Place} → Moves from w (answer from a)
+    → Moves from w (answer from b) → a ≡ b
 move_one {from} {a = a} {b = b} x y = answer_one from a b (moves_one x y)

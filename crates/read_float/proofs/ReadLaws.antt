@@ -38,7 +38,8 @@ takes_float (Takes.a_float {f = f}) = (f, refl)
 
 module _ {text : List ℕ} {token : Token} where
   module _ {part : FloatPart} {buffer : List ℕ} where
-    pub float_denied : {r : Refused} → Denied text token r → Read (Reader.float part) text token buffer (reading.Refused r.refusal r.place) buffer
+    pub float_denied : {r : Refused} → Denied text token r
+        → Read (Reader.float part) text token buffer (reading.Refused r.refusal r.place) buffer
     float_denied (Denied.missing b) = Read.missing b
     float_denied (Denied.no_number t n m) = Read.other_kind t (λ k. let f = takes_float k in m f.0 f.1)
 

@@ -39,7 +39,8 @@ takes_integer (Takes.an_integer {i = i}) = (i, refl)
 
 module _ {text : List ℕ} {token : Token} where
   module _ {buffer : List ℕ} where
-    pub integer_denied : {r : Refused} → Denied text token r → Read Reader.digits text token buffer (reading.Refused r.refusal r.place) buffer
+    pub integer_denied : {r : Refused} → Denied text token r
+        → Read Reader.digits text token buffer (reading.Refused r.refusal r.place) buffer
     integer_denied (Denied.missing b) = Read.missing b
     integer_denied (Denied.no_number t n m) = Read.other_kind t (λ k. let i = takes_integer k in n i.0 i.1)
 

@@ -112,7 +112,8 @@ module _ {text : List ℕ} {token : Token} (t : There text token) where
   hands_reads e takes h = let v = one.reads (there_slice e) takes in slice_reads e v.1 (h v.0 v.1)
 
 -- what is left of a text from a place on misses a token where the text does
-pub missed : {text : List ℕ} {l : Left} {o : ℕ} (k : TokenKind) (n : ℕ) (r : Result ⊤ Refused) → l ≡ record { text = text; at = o }
+pub missed : {text : List ℕ} {l : Left} {o : ℕ} (k : TokenKind) (n : ℕ) (r : Result ⊤ Refused)
+    → l ≡ record { text = text; at = o }
     → IfErr r (Misses l.text (record { kind = k; offset = l.at; len = n }))
     → IfErr r (Misses text (record { kind = k; offset = o; len = n }))
 missed k n r e h = rw e at h

@@ -1,8 +1,11 @@
 use Rattle.std.proofs.Common.{sym, ◌∙◌, arith}
 use Rattle.lex_numbers.proofs.SliceLaws.{rest_from}
-use Rattle.lex_numbers.proofs.PartLaws.{no_byte, some_byte, nothing_passed, missing, passed_on, no_dot_left, no_dot_first, dot_last, dot_digit, dot_other}
+use Rattle.lex_numbers.proofs.PartLaws.{no_byte, some_byte, nothing_passed, missing, passed_on}
+use Rattle.lex_numbers.proofs.PartLaws.{no_dot_left, no_dot_first, dot_last, dot_digit, dot_other}
 use Rattle.lex_numbers.proofs.fraction.Goals as goal
-use Rattle.lex_numbers.proofs.fraction.Goals.{then-is_empty-via-then-is_empty, then-is_empty-via-else-is_empty+then-word-ne46, then-word-lt2-via-then-word-lt2, then-word-lt2-via-else-word-lt2+then-not-is_digit}
+use Rattle.lex_numbers.proofs.fraction.Goals.{then-is_empty-via-then-is_empty, then-word-lt2-via-then-word-lt2}
+use Rattle.lex_numbers.proofs.fraction.Goals.{then-is_empty-via-else-is_empty+then-word-ne46}
+use Rattle.lex_numbers.proofs.fraction.Goals.{then-word-lt2-via-else-word-lt2+then-not-is_digit}
 
 pub returns-then-is_empty : goal.returns-then-is_empty
 returns-then-is_empty c =

@@ -1,6 +1,7 @@
 use Rattle.std.proofs.Common.{◌+◌, sym, ◌∙◌}
 use Rattle.lex_numbers.proofs.SliceLaws.{rest_from}
-use Rattle.lex_numbers.proofs.PartLaws.{no_byte, some_byte, nothing_passed, missing, passed_on, no_mark_left, no_mark_first, mark_first, sign_within}
+use Rattle.lex_numbers.proofs.PartLaws.{no_byte, some_byte, nothing_passed, missing, passed_on}
+use Rattle.lex_numbers.proofs.PartLaws.{no_mark_left, no_mark_first, mark_first, sign_within}
 use Rattle.lex_numbers.proofs.classify.exponent.Goals as goal
 
 pub returns-then-is_empty : goal.returns-then-is_empty
