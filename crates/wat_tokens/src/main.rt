@@ -1,17 +1,30 @@
 // wat-tokens: the tokens of standard input, one to a line, with the flag off. `tokens_output` makes what it prints.
 #![tactic(auto)]
 
+ghost use Rattle.std.specs.Prelude.{◌≤◌, length, IfOk};
+
 use std::io;
 use std::io::Read;
 use std::process::ExitCode;
 
-// The most bytes that are read: one more than the longest input, so that a longer one is told by its length.
-// By `as`: std has no `From` of usize for u64.
-const MOST: u64 = tokens_output::LONGEST as u64 + 1;
-
 // What every output fits in.
 fn room() -> [u8; tokens_output::ROOM] {
     [0; tokens_output::ROOM]
+}
+
+// Reads until the buffer is full or the input ends; returns how many bytes.
+fn read_full<R: Read>(input: &mut R, buffer: &mut [u8]) -> io::Result<usize>
+    ensures { IfOk result (λ n. n ≤ length buffer.new) }
+{
+    let mut done = 0;
+    while done < buffer.len() {
+        let n = input.read(&mut buffer[done..])?;
+        if n == 0 {
+            break;
+        }
+        done += n;
+    }
+    Ok(done)
 }
 
 fn failed(rt: &impl Eprint, what: &str, error: io::Error) -> io::Result<ExitCode> {
@@ -20,12 +33,13 @@ fn failed(rt: &impl Eprint, what: &str, error: io::Error) -> io::Result<ExitCode
 }
 
 fn main(rt: HostRuntime) -> io::Result<ExitCode> {
-    let mut text = Vec::new(rt.alloc());
-    if let Err(e) = rt.reader().take(MOST).read_to_end(&mut text) {
-        return failed(&rt, "standard input", e);
-    }
+    let mut text = [0u8; tokens_output::LONGEST + 1];
+    let n = match read_full(&mut rt.reader(), &mut text) {
+        Ok(n) => n,
+        Err(e) => return failed(&rt, "standard input", e),
+    };
     let mut out = room();
-    let end = tokens_output::render(&text, &mut out);
+    let end = tokens_output::render(&text[..n], &mut out);
     match rt.write_all(&out[..end]) {
         Ok(()) => Ok(ExitCode::SUCCESS),
         Err(e) => failed(&rt, "standard output", e),
