@@ -20,7 +20,7 @@
 // A usize becomes a u64 by `as`: std has no `From` of it.
 #![tactic(auto)]
 
-ghost use Rattle.std.specs.Prelude.{◌+◌, ◌≤◌};
+ghost use Rattle.std.specs.Prelude.{◌+◌, ◌≤◌, length};
 
 use wat::{Listed, Parsed, Refusal, Refused, Token};
 
@@ -28,8 +28,8 @@ use wat::{Listed, Parsed, Refusal, Refused, Token};
 pub const ROW: usize = 152;
 
 // The number of four bytes that stands at a place of the row.
-pub fn number_at(row: &[u8; ROW], at: usize) -> u64
-    requires { at + 4 ≤ 152 }
+pub fn number_at(row: &[u8], at: usize) -> u64
+    requires { at + 4 ≤ length row.now }
 {
     u64::from(u32::from_le_bytes([row[at], row[at + 1], row[at + 2], row[at + 3]]))
 }
