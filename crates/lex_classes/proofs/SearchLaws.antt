@@ -86,6 +86,11 @@ module _ (f : ℕ → Bool) (i n : ℕ) where
 -- ---- what a search finds
 
 module _ (f : ℕ → Bool) (at : ℕ) where
+  -- the first of a block of n places from i on, where none before i passes
+  pub sought_block : (i n r : ℕ) → at ≤ i → Clear f at i → First f i n r → r < n → Earliest f at (i + n) (i + r)
+  sought_block i n r h p q l =
+      record { on = omega (arith, h); before = omega (arith, l); clear = clear_then f at i (i + r) p q.clear; passes = q.stops l }
+
   -- before a later place
   pub earliest_upto : (m to k : ℕ) → m ≤ to → Earliest f at m k → Earliest f at to k
   earliest_upto m to k h q = record { on = q.on; before = omega (arith, q.before); clear = q.clear; passes = q.passes }

@@ -74,7 +74,7 @@ const CLASSES: [u8; 256] = [
 ];
 
 // The table of classes. A call makes one and lends it on, since a constant array is stored anew wherever it is named.
-#[derive(Drop)]
+#[derive(Clone, Copy)]
 pub struct Table {
     classes: [u8; 256],
     ghost answers: { Classes classes },

@@ -122,13 +122,13 @@ module _ (s : List ℕ) (from to : ℕ) where
   seen_clear i p l = sym (in_past i to (glance (drop i s)) l) ∙ p.same
 
   module _ (k : ℕ) (p : Seen s from to k) (h : k < length s) where
-    seen_next : confusing (scalar (take 3 (drop k s))) ≡ false → Seen s from to (k + 1)
+    pub seen_next : confusing (scalar (take 3 (drop k s))) ≡ false → Seen s from to (k + 1)
     seen_next e =
         seen_more 1 p (omega arith)
         (ap glance (front s k h) ∙ glance_plain (get_or s k 0) (drop (k + 1) s)
         (ap (λ (l : List ℕ). confusing (scalar (take 3 l))) (sym (front s k h)) ∙ e))
 
-    seen_found :
+    pub seen_found :
         lead (get_or s k 0) ≡ true → confusing (scalar (take 3 (drop k s))) ≡ true → k < to
         → Found k (scalar (take 3 (drop k s))) ≡ hidden_in from to (hidden (suc (length (drop from s))) (drop from s))
     seen_found l e b =

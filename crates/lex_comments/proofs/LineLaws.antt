@@ -14,9 +14,9 @@ use Rattle.wat.specs.LexModel.{hidden}
 use Rattle.wat.specs.declared.Hidden.TheVariants.{Clear}
 use Rattle.wat.proofs.Basics.{or_split, or_no, below}
 use Rattle.lex_classes.specs.Scan as scan
-use Rattle.lex_classes.specs.Scan.{Scanned, Passed}
+use Rattle.lex_classes.specs.Scan.{Scanned, Passed, First}
 use Rattle.lex_classes.proofs.ScanLaws.{scanned_at, scanned_next, scanned_then, passed_stop, passed_end}
-use Rattle.lex_classes.proofs.SearchLaws.{none_passed}
+use Rattle.lex_classes.proofs.SearchLaws.{none_passed, sought_block, earliest_scanned}
 use Rattle.lex_comments.specs.Find.{byte_at}
 use Rattle.lex_comments.specs.Ends.{line_stop}
 use Rattle.lex_comments.specs.Confusing.{confusing_at, hidden_in}
@@ -67,3 +67,9 @@ module _ (s : List ℕ) (at k : ℕ) (p : Scanned line_stop false s at k) where
   line_hides_nothing w =
       sym (seen_clear s at k k (seen_plain s at k at k w (seen_start s at k (omega (arith, on, p.within)) w) on p.within none_confusing)
       (omega arith))
+
+-- a line that stops in a block of 64 bytes
+pub line_block : (s : List ℕ) (at i r : ℕ) → First (byte_at line_stop s) i 64 r → r < 64 → at ≤ i
+    → scan.Clear (byte_at line_stop s) at i → i + 64 ≤ length s → Scanned line_stop false s at (i + r)
+line_block s at i r q h a p l =
+    earliest_scanned line_stop false s at (i + 64) (i + r) l (sought_block (byte_at line_stop s) at i 64 r a p q h)

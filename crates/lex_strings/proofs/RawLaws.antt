@@ -68,7 +68,7 @@ raw_wide s i n c o h e ch w f =
     }
 
 -- what `continues` says
-continuing : (b : ℕ) → between 0x80 0xBF b ≡ true → Continues b
+pub continuing : (b : ℕ) → between 0x80 0xBF b ≡ true → Continues b
 continuing b e = let w = between_true 0x80 0xBF b e in (w.0, omega arith)
 
 -- characters of two, three and four bytes

@@ -1,5 +1,5 @@
 use Rattle.std.proofs.Common.{◌+◌, ◌∙◌, sym, refl, arith, rules}
-use Rattle.lex_classes.proofs.SearchLaws.{clear_one, clear_then, clear_upto, first_clear}
+use Rattle.lex_classes.proofs.SearchLaws.{clear_one, clear_then, clear_upto, first_clear, sought_block}
 use Rattle.lex_classes.proofs.find.Goals as goal
 
 pub loop-k-preserved : goal.loop-k-preserved
@@ -15,12 +15,8 @@ returns-then-i-n g c =
     let l = c.loop-i in
     λ f h.
     let p = c.first_of-n.ensures f l.i (λ k r q. h (l.i + k) r (search rules)) in
-    record {
-      on = omega (arith, l.invariant.0);
-      before = c.if-i-n.true;
-      clear = clear_then f c.args.at l.i _ (l.invariant.1 f h) p.clear;
-      passes = p.stops c.if-n.true;
-    }
+    let e = sought_block f c.args.at l.i g.row.N _ l.invariant.0 (l.invariant.1 f h) p c.if-n.true in
+    record { on = e.on; before = c.if-i-n.true; clear = e.clear; passes = e.passes }
 
 pub returns-then-n : goal.returns-then-n
 returns-then-n g c =
