@@ -104,7 +104,7 @@ pub fn number_kind(text: &[u8], token: Token, t: &Table) -> Result<NumberKind, R
     match token.kind {
         TokenKind::Integer(i) => Ok(NumberKind::Integer(i)),
         TokenKind::Float(f) => Ok(NumberKind::Float(f)),
-        _ => Err(NOT_THAT_KIND),
+        _ => Err(NOT_THAT_KIND), // no number
     }
 }
 
