@@ -5,7 +5,6 @@
 ghost use Rattle.std.specs.Prelude.{◌≡◌, IfSome, IfNone};
 ghost use Rattle.c_asked.specs.Asked.{settings_of, Denotes, DenotesNone, Empty, Asks};
 
-use codes::KindNumber;
 use wat::{Settings, Token, TokenKind};
 
 // The settings by a word's bits: 1, confusing characters are allowed; 2, strict digits. Other bits are ignored.
@@ -45,7 +44,7 @@ fn named(w: [u64; 3]) -> Option<Token>
     let number = u16::try_from(w[0]).ok()?;
     let len = u32::try_from(w[2]).ok()?;
     Some(Token {
-        kind: KindNumber::try_from(number).ok()?.kind(),
+        kind: codes::kind_of(number)?,
         offset: w[1] as usize,
         len,
     })

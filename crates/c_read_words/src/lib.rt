@@ -1,4 +1,5 @@
 // The answers of the readers and of the messages as words, for C. include/thallusweb.h explains each word.
+// A usize becomes a word by `as`: std has no `From` of it.
 #![tactic(auto)]
 
 ghost use Rattle.std.specs.Prelude.{◌≡◌};
