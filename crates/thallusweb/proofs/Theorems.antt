@@ -6,7 +6,7 @@ use mathlib.Core.Bool.{Bool, true, false}
 use mathlib.Core.List.{List, [], ◌∷◌, ◌++◌}
 use lib.ListN.{length, take, drop, get_or}
 use denote.Ref.{Bor}
-use Rattle.std.specs.Prelude.{Result}
+use Rattle.std.specs.Prelude.{Option, Result}
 use Rattle.wat.specs.declared.{TokenKind.TokenKind, Parsed.Parsed, Listed.Listed}
 use Rattle.wat.specs.Answers.{Answer}
 use Rattle.wat.specs.Checked.{Checked}
@@ -43,6 +43,7 @@ use Rattle.messages.specs.Messages.{Tells}
 use Rattle.wat_lines.specs.LineEnds.{line_ends, ends_in_return}
 use Rattle.wat_lines.specs.Newlines.{Newlines}
 use Rattle.place.specs.Places.{Moved, Moves}
+use Rattle.place.specs.Places as counter
 use Rattle.place.specs.Pieces.{InTwo}
 use Rattle.c_spots.specs.Spots.{MovedWords}
 use Rattle.c_words.specs.Words.{folded_words}
@@ -340,6 +341,11 @@ tells_one x y = message.tells_one x y
 
 pub moves_one : {from : Place} {w : List ℕ} {a b : Moved} → Moves from w a → Moves from w b → a ≡ b
 moves_one x y = place.moves_one x y
+
+-- and by its place alone, which is what `place::move_over` answers
+pub move_one : {from : Place} {w : List ℕ} {a b : Option Place} → Moves from w (counter.answer from a)
+    → Moves from w (counter.answer from b) → a ≡ b
+move_one x y = place.move_one x y
 
 -- ---- lines and columns
 
