@@ -149,7 +149,7 @@ pub fn kind_of(n: u16) -> Option<TokenKind>
 }
 
 // A kind in one word, its number: clauses see the kind itself.
-#[derive(Clone, Copy)]
+#[derive(Clone, Copy, PartialEq, Eq)]
 pub struct KindNumber {
     number: u16,
 }

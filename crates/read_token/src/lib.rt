@@ -7,6 +7,7 @@ ghost use Rattle.std.specs.Prelude.{◌≡◌, true, OnOk, IfOk, IfErr};
 ghost use Rattle.wat_values.specs.Reading.{There};
 ghost use Rattle.read_token.specs.Here.{Misses, Untaken, HereNumber, Denied, HereName, Unnamed};
 
+use codes::KindNumber;
 use lex_classes::Table;
 use lex_entry::Rest;
 use wat::{NumberKind, Refusal, Refused, Settings, Token, TokenKind};
@@ -52,7 +53,7 @@ fn alone(text: &[u8], token: Token, t: &Table) -> bool
         return false;
     }
     match lex_token::token_alone(text, t) {
-        Some(kind) => kind.get() == codes::kind_number(token.kind), // a word each: cheaper than the kinds
+        Some(kind) => kind == KindNumber::new(token.kind), // a word each: cheaper than the kinds
         None => false,
     }
 }
