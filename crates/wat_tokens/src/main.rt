@@ -12,8 +12,8 @@ fn room() -> [u8; tokens_output::ROOM] {
     [0; tokens_output::ROOM]
 }
 
-// Reads until the buffer is full or the input ends; returns how many bytes. Each read asks for all that is left: one that
-// asks for less loses the rest of a packet. By std's `take` and `read_to_end` it did, took heap, and went on when interrupted.
+// Reads until the buffer is full or the input ends; returns how many bytes. Each read asks for all that is left, since one
+// that asks for less loses the rest of a packet. std's `read_to_end` asks for less, takes heap, and goes on when interrupted.
 fn read_full<R: Read>(input: &mut R, buffer: &mut [u8]) -> io::Result<usize>
     ensures { IfOk result (λ n. n ≤ length buffer.new) }
 {
